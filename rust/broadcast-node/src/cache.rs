@@ -110,8 +110,8 @@ impl<M> Cache<M> {
         self.store.is_primary(key)
     }
 
-    /// Takes a message under the key `peer` and the digest, at this charge. The cache compares neither with the message.
-    /// Serves all tickets that wait for the digest, whatever the outcome is. The result has the messages that leave the
+    /// Takes a message under the key `peer` and the digest, at this charge. Neither the digest nor the charge is checked: a
+    /// message is cached under whatever digest it came with, and memory is bounded by what the caller charges. Serves all tickets that wait for the digest, whatever the outcome is. The result has the messages that leave the
     /// cache, and drops those that the caller does not ask for.
     ///
     /// # Errors
@@ -222,7 +222,16 @@ impl<M> Cache<M> {
 
     /// Returns the cached messages with their digests, in any order.
     pub fn iter(&self) -> impl Iterator<Item = (&Digest, &M)> {
-        self.slots.iter().map(|it| (&it.digest, &it.message))
+        self.cached().map(|it| (&it.digest, &it.message))
+    }
+
+    /// Returns the places of the cached messages.
+    pub(crate) fn cached(&self) -> impl Iterator<Item = &Slot<M>> {
+        let all_are = !self.slots.has_left();
+        let is_cached = move |(number, it): &(u64, &Slot<M>)| {
+            all_are || self.store.get(&it.digest) == Some(*number)
+        };
+        self.slots.iter().filter(is_cached).map(|it| it.1)
     }
 
     /// Returns the cached message of the digest.

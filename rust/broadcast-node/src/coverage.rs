@@ -14,7 +14,7 @@ pub struct Span {
 }
 
 /// Which stamps of an author a relay has had: all from 1 up to a floor, and those of some spans behind it, which have gaps
-/// before and between them. The verified library decides.
+/// before and between them. Stamp 0 is never had. The verified library decides.
 ///
 /// ```
 /// # fn main() -> Result<(), broadcast_node::Error> {
@@ -32,6 +32,8 @@ pub struct Span {
 /// # }
 /// ```
 #[derive(Clone, Debug, PartialEq, Eq)]
+#[cfg_attr(feature = "serde", derive(serde::Serialize, serde::Deserialize))]
+#[cfg_attr(feature = "serde", serde(try_from = "Reported"))]
 pub struct Coverage {
     floor: u64,
     spans: Vec<Span>,
@@ -41,7 +43,7 @@ impl Coverage {
     /// The most spans behind the floor.
     pub const MOST: usize = 63;
 
-    /// Creates the coverage of all stamps up to `floor`.
+    /// Creates the coverage of all stamps from 1 up to `floor`.
     ///
     /// # Errors
     ///
@@ -63,7 +65,7 @@ impl Coverage {
         Ok(is_one.then_some(Coverage { floor, spans }))
     }
 
-    /// Returns the floor: all stamps up to it were had.
+    /// Returns the floor: all stamps from 1 up to it were had.
     pub const fn floor(&self) -> u64 {
         self.floor
     }
@@ -73,7 +75,7 @@ impl Coverage {
         &self.spans
     }
 
-    /// Returns whether the stamp was had.
+    /// Returns whether the stamp was had. Stamp 0 never was.
     pub fn has(&self, stamp: u64) -> bool {
         raw::coverage_has(self.floor, &self.spans, stamp) == Ok(Some(true))
     }
@@ -99,5 +101,28 @@ impl Coverage {
         let span = Span { from: prev, to: stamp };
         let gap = raw::coverage_cover(&mut self.floor, &mut self.spans, span)?;
         Ok(gap.unwrap_or_default())
+    }
+}
+
+/// What is read of a text: a coverage, or not.
+#[cfg(feature = "serde")]
+#[derive(serde::Deserialize)]
+struct Reported {
+    floor: u64,
+    spans: Vec<Span>,
+}
+
+#[cfg(feature = "serde")]
+impl TryFrom<Reported> for Coverage {
+    type Error = String;
+
+    fn try_from(it: Reported) -> Result<Coverage, String> {
+        let read = Coverage::reported(it.floor, it.spans).map_err(|it| it.to_string())?;
+        read.ok_or_else(|| {
+            format!(
+                "a coverage has at most {} spans, in order with gaps between them",
+                Coverage::MOST
+            )
+        })
     }
 }

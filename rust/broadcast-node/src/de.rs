@@ -36,7 +36,8 @@ where
     fn visit_seq<A: SeqAccess<'de>>(self, mut bytes: A) -> Result<T, A::Error> {
         let (mut room, mut len) = ([0; crate::Key::MAX_LEN], 0);
         while let Some(byte) = bytes.next_element()? {
-            let place = room.get_mut(len).ok_or(A::Error::custom(ParseError::Length(len + 1)))?;
+            let place =
+                room.get_mut(len).ok_or(A::Error::invalid_length(len + 1, &"at most 64"))?;
             (*place, len) = (byte, len + 1);
         }
         T::try_from(&room[..len]).map_err(A::Error::custom)

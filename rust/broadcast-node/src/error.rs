@@ -1,15 +1,23 @@
 //! Why a call failed.
 
+use crate::raw::VERSION;
 use std::fmt;
 
 /// Why a call failed. The call has changed nothing.
-#[derive(Clone, Copy, Debug, PartialEq, Eq, Hash)]
+///
+/// `{:?}` prints the same as `{}`, so a `main` that returns an error prints what to do.
+#[derive(Clone, Copy, PartialEq, Eq, Hash)]
 #[non_exhaustive]
 pub enum Error {
     /// An allocation failed.
     Memory,
-    /// A message of this length is longer than the node allows.
-    TooLong(usize),
+    /// A message is longer than the node allows.
+    TooLong {
+        /// The bytes of the message.
+        found: usize,
+        /// The most that a message may have.
+        allowed: usize,
+    },
     /// The processor lacks instructions of x86-64-v2 that the verified library uses.
     Processor,
     /// The linked library has this version, and not the one that this crate was written for.
@@ -22,13 +30,27 @@ impl fmt::Display for Error {
     fn fmt(&self, f: &mut fmt::Formatter<'_>) -> fmt::Result {
         match self {
             Error::Memory => f.write_str("out of memory"),
-            Error::TooLong(len) => write!(f, "a message of {len} bytes is too long"),
-            Error::Processor => f.write_str("libbroadcast_c needs a processor of x86-64-v2"),
-            Error::Version(found) => {
-                write!(f, "libbroadcast_c has version {found}, which is not this crate's")
+            Error::TooLong { found, allowed } => {
+                write!(f, "a message has {found} bytes, and at most {allowed} are allowed")
             }
-            Error::Status(status) => write!(f, "libbroadcast_c returned the status {status}"),
+            Error::Processor => f.write_str(
+                "libbroadcast_c needs a processor of x86-64-v2, which those from 2009 on are",
+            ),
+            Error::Version(found) => write!(
+                f,
+                "the linked libbroadcast_c has version {found}, and this crate was written for {VERSION}: set \
+                 BROADCAST_C_LIB to the folder of that one"
+            ),
+            Error::Status(status) => {
+                write!(f, "libbroadcast_c returned the status {status}: it is not the verified one")
+            }
         }
+    }
+}
+
+impl fmt::Debug for Error {
+    fn fmt(&self, f: &mut fmt::Formatter<'_>) -> fmt::Result {
+        fmt::Display::fmt(self, f)
     }
 }
 
@@ -69,5 +91,21 @@ impl<M> std::error::Error for Refused<M> {}
 impl<M> From<Refused<M>> for Error {
     fn from(refused: Refused<M>) -> Error {
         refused.error
+    }
+}
+
+#[cfg(test)]
+mod tests {
+    use super::*;
+
+    #[test]
+    fn a_main_that_returns_an_error_prints_what_to_do() {
+        for error in [Error::Version(7), Error::TooLong { found: 9, allowed: 5 }, Error::Processor]
+        {
+            assert_eq!(format!("{error:?}"), error.to_string());
+        }
+        assert!(
+            Error::Version(7).to_string().ends_with("BROADCAST_C_LIB to the folder of that one")
+        );
     }
 }

@@ -98,8 +98,10 @@ impl Digest {
 #[derive(Clone, Copy, Debug, PartialEq, Eq)]
 #[non_exhaustive]
 pub enum ParseError {
-    /// There are too many bytes, or for a digest too few.
-    Length(usize),
+    /// The bytes are more than a key has.
+    KeyLength(usize),
+    /// The bytes are more or fewer than a digest has.
+    DigestLength(usize),
     /// A character is not hexadecimal, or one half of a byte is lacking.
     NotHex,
 }
@@ -107,7 +109,12 @@ pub enum ParseError {
 impl fmt::Display for ParseError {
     fn fmt(&self, f: &mut fmt::Formatter<'_>) -> fmt::Result {
         match self {
-            ParseError::Length(len) => write!(f, "a length of {len} bytes is not allowed"),
+            ParseError::KeyLength(found) => {
+                write!(f, "a key of {found} bytes, and at most {} are allowed", Key::MAX_LEN)
+            }
+            ParseError::DigestLength(found) => {
+                write!(f, "a digest of {found} bytes, and it must have {}", Digest::LEN)
+            }
             ParseError::NotHex => f.write_str("not hexadecimal"),
         }
     }
@@ -132,7 +139,7 @@ impl TryFrom<&[u8]> for Key {
     fn try_from(bytes: &[u8]) -> Result<Key, ParseError> {
         let mut key = [0; Key::MAX_LEN + 1];
         let [room @ .., len] = &mut key;
-        let room = room.get_mut(..bytes.len()).ok_or(ParseError::Length(bytes.len()))?;
+        let room = room.get_mut(..bytes.len()).ok_or(ParseError::KeyLength(bytes.len()))?;
         room.copy_from_slice(bytes);
         *len = bytes.len() as u8;
         Ok(Key(key))
@@ -155,7 +162,7 @@ impl TryFrom<&[u8]> for Digest {
     type Error = ParseError;
 
     fn try_from(bytes: &[u8]) -> Result<Digest, ParseError> {
-        let bytes = bytes.try_into().map_err(|_| ParseError::Length(bytes.len()))?;
+        let bytes = bytes.try_into().map_err(|_| ParseError::DigestLength(bytes.len()))?;
         Ok(Digest(bytes))
     }
 }
@@ -166,14 +173,18 @@ impl From<Digest> for [u8; Digest::LEN] {
     }
 }
 
-/// Reads hexadecimal into the room, and returns how many bytes there are.
-fn read_hex(text: &str, room: &mut [u8]) -> Result<usize, ParseError> {
+/// Reads hexadecimal into the room, and returns how many bytes there are. They may be too many.
+fn read_hex(
+    text: &str,
+    room: &mut [u8],
+    too_many: fn(usize) -> ParseError,
+) -> Result<usize, ParseError> {
     let pairs = text.as_bytes().chunks_exact(2);
     let len = pairs.len();
     if !pairs.remainder().is_empty() {
         return Err(ParseError::NotHex);
     }
-    let room = room.get_mut(..len).ok_or(ParseError::Length(len))?;
+    let room = room.get_mut(..len).ok_or(too_many(len))?;
     for (byte, pair) in room.iter_mut().zip(pairs) {
         *byte = half(pair[0])? << 4 | half(pair[1])?;
     }
@@ -191,7 +202,7 @@ impl FromStr for Key {
     /// Reads hexadecimal.
     fn from_str(text: &str) -> Result<Key, ParseError> {
         let mut key = [0; Key::MAX_LEN + 1];
-        let len = read_hex(text, &mut key[..Key::MAX_LEN])?;
+        let len = read_hex(text, &mut key[..Key::MAX_LEN], ParseError::KeyLength)?;
         key[Key::MAX_LEN] = len as u8;
         Ok(Key(key))
     }
@@ -203,9 +214,9 @@ impl FromStr for Digest {
     /// Reads hexadecimal.
     fn from_str(text: &str) -> Result<Digest, ParseError> {
         let mut digest = [0; Digest::LEN];
-        match read_hex(text, &mut digest)? {
+        match read_hex(text, &mut digest, ParseError::DigestLength)? {
             Digest::LEN => Ok(Digest(digest)),
-            other => Err(ParseError::Length(other)),
+            other => Err(ParseError::DigestLength(other)),
         }
     }
 }

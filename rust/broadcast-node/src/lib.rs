@@ -75,7 +75,7 @@ pub use coverage::{Coverage, Span};
 pub use error::{Error, Refused};
 pub use key::{Digest, Key, ParseError};
 pub use node::{Broadcast, Counters, Invalid, Limits, Message, Node, Received, Recipients};
-pub use outbox::{Listed, lag, next};
+pub use outbox::Listed;
 pub use snapshot::{RestoreError, Snapshot};
 pub use taken::{Evicted, Held, Subscribed, Taken};
 pub use tickets::Ticket;
@@ -87,6 +87,7 @@ pub type BytesNode = Node<bytes::Bytes>;
 /// What happened to the list of a key when a message was taken under it.
 #[derive(Clone, Copy, Debug, PartialEq, Eq, PartialOrd, Ord, Hash)]
 #[cfg_attr(feature = "serde", derive(serde::Serialize, serde::Deserialize))]
+#[non_exhaustive]
 pub enum Outcome {
     /// The digest was not on the list, and was put in front of it.
     Inserted,

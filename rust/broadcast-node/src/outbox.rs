@@ -15,38 +15,40 @@ pub struct Listed {
     pub bytes: u64,
 }
 
-/// Returns the index of the message on the list that a peer with this coverage is sent next: the first which the peer lacks
-/// and which is not in flight. While the bytes in flight reach `room` there is none. A peer that is held back is sent
-/// nothing above the top of its coverage.
-///
-/// ```
-/// # fn main() -> Result<(), broadcast_node::Error> {
-/// use broadcast_node::{Coverage, Listed, lag, next};
-///
-/// let list = [1, 2, 3].map(|stamp| Listed { prev: stamp - 1, stamp, bytes: 10 });
-/// let reported = Coverage::new(1)?; // the peer has the first message
-/// assert_eq!(next(&list, &reported, false, &[], 15), Some(1));
-/// assert_eq!(next(&list, &reported, false, &list[1..2], 15), Some(2));
-/// assert_eq!(next(&list, &reported, false, &list[1..3], 15), None);
-/// assert_eq!(next(&list, &reported, true, &[], 15), None);
-/// assert_eq!(lag(&list, &[0, 10, 20, 30], &reported), 20);
-/// # Ok(())
-/// # }
-/// ```
-pub fn next(
-    list: &[Listed],
-    reported: &Coverage,
-    is_held: bool,
-    in_flight: &[Listed],
-    room: u64,
-) -> Option<usize> {
-    // There is a coverage only where the library can be used, so no call fails.
-    raw::outbox_next(list, reported, is_held, in_flight, room).ok().flatten()
-}
+impl Coverage {
+    /// Returns the index of the message on the list that a peer which reported this coverage is sent next: the first that the
+    /// peer lacks and that is not in flight. While the bytes in flight reach `room` there is none. A peer that is held back
+    /// is sent nothing above the top of its coverage.
+    ///
+    /// ```
+    /// # fn main() -> Result<(), broadcast_node::Error> {
+    /// use broadcast_node::{Coverage, Listed};
+    ///
+    /// let list = [1, 2, 3].map(|stamp| Listed { prev: stamp - 1, stamp, bytes: 10 });
+    /// let reported = Coverage::new(1)?; // the peer has the first message
+    /// assert_eq!(reported.next_to_send(&list, false, &[], 15), Some(1));
+    /// assert_eq!(reported.next_to_send(&list, false, &list[1..2], 15), Some(2));
+    /// assert_eq!(reported.next_to_send(&list, false, &list[1..3], 15), None);
+    /// assert_eq!(reported.next_to_send(&list, true, &[], 15), None);
+    /// assert_eq!(reported.lag(&list, &[0, 10, 20, 30]), 20);
+    /// # Ok(())
+    /// # }
+    /// ```
+    pub fn next_to_send(
+        &self,
+        list: &[Listed],
+        is_held: bool,
+        in_flight: &[Listed],
+        room: u64,
+    ) -> Option<usize> {
+        // There is a coverage only where the library can be used, so no call fails.
+        raw::outbox_next(list, self, is_held, in_flight, room).ok().flatten()
+    }
 
-/// Returns the bytes of the messages on the list that a peer with this coverage lacks. The list is in order of stamps. `sums`
-/// has a number in front of each message and one behind the last: each is the one before it and the bytes of the message
-/// between them. Otherwise the result is any number.
-pub fn lag(list: &[Listed], sums: &[u64], reported: &Coverage) -> u64 {
-    raw::outbox_lag(list, sums, reported).unwrap_or(u64::MAX)
+    /// Returns the bytes of the messages on the list that a peer which reported this coverage lacks. The list is in order of
+    /// stamps. `sums` has a number in front of each message and one behind the last: each is the one before it and the bytes
+    /// of the message between them. Otherwise the result is any number.
+    pub fn lag(&self, list: &[Listed], sums: &[u64]) -> u64 {
+        raw::outbox_lag(list, sums, self).unwrap_or(u64::MAX)
+    }
 }

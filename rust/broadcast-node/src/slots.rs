@@ -119,9 +119,14 @@ impl<M> Slots<M> {
         self.places.get(usize::try_from(number).ok()?)?.as_ref()
     }
 
-    /// Returns the messages, in any order.
-    pub fn iter(&self) -> impl Iterator<Item = &Slot<M>> {
-        self.places.iter().flatten()
+    /// Returns the messages with their numbers, in any order. Those that left are among them if `has_left`.
+    pub fn iter(&self) -> impl Iterator<Item = (u64, &Slot<M>)> {
+        (0..).zip(&self.places).filter_map(|(number, it)| Some((number, it.as_ref()?)))
+    }
+
+    /// Returns whether messages that left are here still, because their `Evicted` was forgotten.
+    pub fn has_left(&self) -> bool {
+        self.free.iter().any(|it| self.get(*it).is_some())
     }
 
     /// Returns the sum of the charges.

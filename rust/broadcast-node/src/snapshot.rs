@@ -134,7 +134,7 @@ impl<M: Clone> Cache<M> {
             let key = self.primary[place];
             lists.push((key, self.charged_list(&key)?));
         }
-        messages.extend(self.slots.iter().map(|it| (it.digest, it.charge, it.message.clone())));
+        messages.extend(self.cached().map(|it| (it.digest, it.charge, it.message.clone())));
         Ok(Snapshot { lists, messages })
     }
 }

@@ -106,6 +106,7 @@ impl Pair {
             Outcome::Duplicate => &mut self.seen.duplicate,
             Outcome::Ineligible => &mut self.seen.ineligible,
             Outcome::Oversize => &mut self.seen.oversize,
+            other => panic!("{other:?}"),
         } += 1;
     }
 

@@ -22,6 +22,7 @@ fn is_the_union_of_all_that_was_covered() {
             assert_eq!(had.cover(prev, stamp), Ok(Span::default()));
             (prev + 1..=stamp).for_each(|it| set[it as usize] = true);
             assert!((1..64).all(|it| had.has(it) == set[it as usize]), "{had:?}");
+            assert!(!had.has(0), "stamp 0 is never had");
             let read = Coverage::reported(had.floor(), had.spans().to_vec());
             assert_eq!(read, Ok(Some(had.clone())));
         }
@@ -62,4 +63,17 @@ fn a_message_without_stamps_closes_no_gap() {
     let before = had.clone();
     assert_eq!(had.cover(7, 7), Ok(Span::default()));
     assert_eq!(had, before);
+}
+
+#[cfg(feature = "serde")]
+#[test]
+fn only_a_coverage_is_read() {
+    let mut had = Coverage::new(5).unwrap();
+    had.cover(7, 9).unwrap();
+    let text = serde_json::to_string(&had).unwrap();
+    assert_eq!(text, r#"{"floor":5,"spans":[{"from":7,"to":9}]}"#);
+    let read = |text: &str| serde_json::from_str::<Coverage>(text).map_err(|it| it.to_string());
+    assert_eq!(read(&text), Ok(had));
+    let refused = read(&text.replace('7', "4")).unwrap_err();
+    assert!(refused.starts_with("a coverage has at most 63 spans"), "{refused}");
 }

@@ -151,3 +151,37 @@ fn a_message_leaves_with_its_last_list() -> Result<(), Error> {
     assert_eq!(take(1, 3), Ok((false, vec![2])));
     Ok(())
 }
+
+/// A message that left is not seen any more, also if nobody dropped it.
+#[test]
+fn a_forgotten_result_leaves_no_ghost() -> Result<(), Error> {
+    let alive = Rc::new(Cell::new(0));
+    let mut cache = Cache::new(key(0), 2, u64::MAX)?;
+    cache.update_primary_peers(&[key(0)])?;
+    let shows = |cache: &mut Cache<Rc<Counted>>| {
+        let mut seen: Vec<Digest> = cache.iter().map(|it| *it.0).collect();
+        let mut stored: Vec<Digest> = cache.snapshot()?.messages.iter().map(|it| it.0).collect();
+        let mut listed = cache.list(&key(0))?;
+        seen.sort();
+        stored.sort();
+        listed.sort();
+        assert_eq!((&seen, &stored), (&listed, &listed));
+        Ok::<_, Error>(seen.len())
+    };
+    for n in 0..6 {
+        // The third one comes again after it left.
+        let n = if n == 5 { 2 } else { n };
+        let message = Rc::new(Counted::new(&alive, 1));
+        std::mem::forget(cache.take(&key(0), &digest(n), 1, message)?);
+        shows(&mut cache)?;
+    }
+    assert_eq!(shows(&mut cache), Ok(2));
+    std::mem::forget(cache.update_primary_peers(&[])?);
+    assert_eq!(shows(&mut cache), Ok(0));
+    cache.update_primary_peers(&[key(0)])?;
+    drop(cache.take(&key(0), &digest(7), 1, Rc::new(Counted::new(&alive, 1)))?);
+    assert_eq!(shows(&mut cache), Ok(1));
+    drop(cache);
+    assert_eq!(alive.get(), 0);
+    Ok(())
+}

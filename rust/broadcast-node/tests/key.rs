@@ -17,7 +17,7 @@ fn a_key_has_its_bytes() {
         assert_eq!(key.to_string().len(), 2 * bytes.len());
         assert_eq!(key.to_string().parse(), Ok(key));
     }
-    assert_eq!(Key::try_from(&[7; 65][..]), Err(ParseError::Length(65)));
+    assert_eq!(Key::try_from(&[7; 65][..]), Err(ParseError::KeyLength(65)));
     assert_eq!(Key::from([7; 3]).as_ref(), [7; 3]);
     assert_eq!(format!("{:?}", Key::from([1, 0xab])), "Key(01ab)");
 }
@@ -38,11 +38,11 @@ fn what_is_no_text_of_a_key_or_digest_is_refused() {
         assert_eq!(text.parse::<Key>(), Err(ParseError::NotHex), "{text}");
         assert_eq!(text.parse::<Digest>(), Err(ParseError::NotHex), "{text}");
     }
-    assert_eq!("00".repeat(65).parse::<Key>(), Err(ParseError::Length(65)));
-    assert_eq!("00".repeat(31).parse::<Digest>(), Err(ParseError::Length(31)));
-    assert_eq!("00".repeat(33).parse::<Digest>(), Err(ParseError::Length(33)));
+    assert_eq!("00".repeat(65).parse::<Key>(), Err(ParseError::KeyLength(65)));
+    assert_eq!("00".repeat(31).parse::<Digest>(), Err(ParseError::DigestLength(31)));
+    assert_eq!("00".repeat(33).parse::<Digest>(), Err(ParseError::DigestLength(33)));
     assert_eq!("00".repeat(32).parse(), Ok(Digest::default()));
-    assert_eq!(Digest::try_from(&[1; 31][..]), Err(ParseError::Length(31)));
+    assert_eq!(Digest::try_from(&[1; 31][..]), Err(ParseError::DigestLength(31)));
 }
 
 #[cfg(feature = "serde")]

@@ -333,7 +333,7 @@ fn a_message_above_the_limit_is_neither_sent_nor_taken() -> Result<(), Error> {
     node.update_primary_peers(&[key(1)])?;
     let long = vec![5; MAX_LEN + 1];
     let sent = node.broadcast(Recipients::All, &long).map(|it| it.outcome);
-    assert_eq!(sent, Err(Error::TooLong(MAX_LEN + 1)));
+    assert_eq!(sent, Err(Error::TooLong { found: MAX_LEN + 1, allowed: MAX_LEN }));
     let is_too_long = |it: Received<'_, Vec<u8>>| matches!(it, Received::Invalid(Invalid::InvalidLength(len)) if len == MAX_LEN + 1);
     assert!(is_too_long(node.payload(&key(1), encoded(&long))?));
     assert!(node.is_empty());

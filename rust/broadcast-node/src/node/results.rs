@@ -3,7 +3,7 @@
 use super::wire::{self, Invalid};
 use crate::{Digest, Evicted, Held, Key, Outcome, Ticket};
 
-/// The peers that a message is for.
+/// The peers that a message is for. There will be no other variants, so a network may match all.
 #[derive(Clone, Debug, Default, PartialEq, Eq, Hash)]
 #[cfg_attr(feature = "serde", derive(serde::Serialize, serde::Deserialize))]
 pub enum Recipients<P = Key> {

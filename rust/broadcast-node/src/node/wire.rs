@@ -40,8 +40,9 @@ pub fn message_of(payload: &[u8]) -> &[u8] {
 
 /// Returns the payload of a message of at most `max_len` bytes.
 pub fn encode(message: &[u8], max_len: usize) -> Result<Vec<u8>, Error> {
-    let head = raw::packet_head(message.len()).filter(|_| message.len() <= max_len);
-    let head = head.ok_or(Error::TooLong(message.len()))?;
+    let allowed = max_len.min(u32::MAX as usize);
+    let head = raw::packet_head(message.len()).filter(|_| message.len() <= allowed);
+    let head = head.ok_or(Error::TooLong { found: message.len(), allowed })?;
     let mut payload = Vec::new();
     payload.try_reserve_exact(head.len() + message.len())?;
     payload.extend_from_slice(&head);

@@ -107,12 +107,12 @@ impl Coverage {
         in_flight: &[Listed],
         room: u64,
     ) -> Option<usize> {
-        broadcast_node::next(list, &self.0, is_held, in_flight, room)
+        self.0.next_to_send(list, is_held, in_flight, room)
     }
 
     /// The bytes of the messages on a list, with sums beside it, that this lacks.
     pub fn lag(&self, list: &[Listed], sums: &[u64]) -> u64 {
-        broadcast_node::lag(list, sums, &self.0)
+        self.0.lag(list, sums)
     }
 }
 
