@@ -2,11 +2,10 @@
  * format of a message; coverages, which say what a relay has had; what a relay sends; buckets, which
  * say what a rate allows; counters; and SHA-256.
  *
- * Link with -lbroadcast_c and libc. The library of `make dist` needs nothing else, and its
- * lib/pkgconfig/broadcast_c.pc says so (`pkg-config --cflags --libs broadcast_c`). That of `make lib`
- * is linked with c/liblibc_c.a of the toolchain, which allocates by malloc, realloc and free; or with
- * functions of your own in its place (rust/broadcast-node/src/raw/heap.rs has Rust's). The library is
- * for x86_64-unknown-linux-gnu, and processors of x86-64-v2 (from 2009 on).
+ * `make install PREFIX=..` installs the library, and its file of pkg-config says how a program is
+ * linked. Without that compile ffi/heap.c with the program, by which the library allocates, and name
+ * rust/broadcast-node/lib/TARGET/libbroadcast_c.a. On x86-64 the library needs x86-64-v2 (processors
+ * from 2009 on).
  *
  * Nothing checks a call from C. A caller makes sure of this:
  *  - A `broadcast_store` is all zeros before its first call, and is read and written by these

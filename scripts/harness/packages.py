@@ -21,7 +21,7 @@ def lacking(wanted):
 
 def not_installed(wanted):
     """Returns those of the wanted packages that dpkg does not know as installed; none where there is no dpkg."""
-    if not shutil.which("dpkg-query"):
+    if not wanted or not shutil.which("dpkg-query"):
         return []
     _, said = call(["dpkg-query", "-W", "-f", "${Package} ${db:Status-Status}\n", *wanted])
     return [it for it in wanted if f"{it} installed" not in said.splitlines()]
