@@ -27,8 +27,8 @@ CRATES = {
     "rates": ("bench/rates", "broadcast_core broadcast_mailbox commonware_broadcast memory_network futures"),
 }
 ENDING = ".rt.txt"
-# Seconds after which a test is given up.
-LIMIT = 60
+# Seconds after which a test is given up: some have threads that wait for each other, and the machine may be busy.
+LIMIT = 900
 # The crate that keeps what is built, and tells which wrong body is chosen.
 CHOICE = "wrong_body"
 HARNESS = TOP / "scripts" / "harness"
@@ -90,9 +90,9 @@ def tests_of(executable):
     return [line.removesuffix(": test") for line in listed if line.endswith(": test")]
 
 
-def fault_of_test(executable, test):
+def fault_of_test(executable, test, limit=LIMIT):
     """What a test prints if it fails, or `None`."""
-    is_well, said = call([executable, test], LIMIT)
+    is_well, said = call([executable, test], limit)
     return None if is_well and "test result: ok" in said else f"failed: {test}: {said[-2000:]}"
 
 

@@ -1,17 +1,17 @@
-"""Scenarios for both engines, drawn from seeds, in the language of tests/README.md. They stay within what both promise: EXCLUDED
-says what they leave out."""
+"""Scenarios for both engines, drawn from seeds, in the language of tests/README.md.
+
+They stay within what both engines do and promise. Left out are:
+
+    polls by hand, their turns, wakes, `applies`, `holds jobs for`    the async engine has no such calls
+    `closes`, `drops`           a dropped async engine closes its mailbox, one in Rattle leaves it open
+    the drop of a last mailbox  it ends the async engine alone
+    the payloads of one peer    the async engine counts those of all peers that are not primary together
+    what is on a list           no call of an engine in Rattle returns it; evictions show it, and gets
+    refused allocations         the two cannot be refused at the same event
+"""
 
 import random
 
-# What only one of the engines does, or promises.
-EXCLUDED = """
-a poll by hand and its turn, who was woken, `applies`, `holds jobs for`    the Rust engine has no call for them
-`closes`, `drops`    a dropped Rust engine closes its mailbox, one in Rattle leaves it open
-the drop of the last mailbox    it ends the Rust engine alone
-the payloads of one peer    the Rust engine counts those of all that are not primary together
-what is on a list, and its order    no engine in Rattle shows it; gets and evictions do
-refused allocations    the two cannot be refused at the same event
-"""
 # The kinds of keys: near 0, above 2^56 with few first bytes, anywhere in 64 bits.
 KEYS = (
     lambda draw: draw.randrange(1, 12),
