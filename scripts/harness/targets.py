@@ -20,34 +20,29 @@ from harness.objects import symbols
 PRINT = """-x ir -S -emit-llvm -O0 -Xclang -emit-llvm-uselists -Xclang -disable-llvm-passes module.bc -o printed.ll""".split()
 # What an object may need of others: of libc, of the compiler's own library, and of the caller.
 NEEDED = {
-    "memcpy", "memmove", "memset", "bzero", "_bzero", "__bzero", "__udivti3",
+    "memcpy", "memmove", "memset", "bzero", "__bzero", "__udivti3",
     "rattle_alloc", "rattle_realloc", "rattle_dealloc",
 }
-X86_64 = ("-march=x86-64",)
-# Those of the toolchain, and one without which an atomic operation is a call of the compiler's own library.
+# The toolchain's own words for AArch64, and one without which an atomic operation is a call of the compiler's library.
 AARCH64 = ("-march=armv8-a", "-mllvm", "-aarch64-load-store-renaming=false", "-mno-outline-atomics")
 
 
 @dataclass(frozen=True)
 class Target:
-    """What clang calls a target, its own words, and the form of its archives."""
+    """What clang calls a target, the words that name its processor if it is another one, and the form of its archives."""
 
     triple: str
-    words: tuple
+    words: tuple = ()
     archive: str = "gnu"
-
-    @property
-    def is_aarch64(self):
-        return self.words == AARCH64
 
 
 # The toolchain's own.
 OWN = "x86_64-unknown-linux-gnu"
 # By Rust's names. The versions of Apple's systems are the least ones that Rust supports.
 TARGETS = {
-    OWN: Target("x86_64-unknown-linux-gnu", X86_64),
-    "x86_64-unknown-linux-musl": Target("x86_64-unknown-linux-musl", X86_64),
-    "x86_64-apple-darwin": Target("x86_64-apple-macosx10.12.0", X86_64, "darwin"),
+    OWN: Target("x86_64-unknown-linux-gnu"),
+    "x86_64-unknown-linux-musl": Target("x86_64-unknown-linux-musl"),
+    "x86_64-apple-darwin": Target("x86_64-apple-macosx10.12.0", archive="darwin"),
     "aarch64-unknown-linux-gnu": Target("aarch64-unknown-linux-gnu", AARCH64),
     "aarch64-unknown-linux-musl": Target("aarch64-unknown-linux-musl", AARCH64),
     "aarch64-apple-darwin": Target("arm64-apple-macosx11.0.0", AARCH64, "darwin"),
@@ -66,29 +61,30 @@ def clang(words, room):
 
 
 def without_target(text):
-    """Returns the text of a module without the lines and attributes that name its target.
+    """Returns the text of a module without its layout of data: clang takes that of the target.
 
-    Only what means the same for each target may be in it: no numbers with a point, no instruction of a processor."""
+    Only what means the same for each target may be in a module: no numbers with a point, no instruction of a processor, and
+    between it and C no short argument that a side extends, since the sides differ in that."""
     code = re.sub(r'"[^"\n]*"', '""', text)
     unfit = re.findall(r"\b(?:float|double|half|bfloat|fp128|x86_fp80|ppc_fp128|x86_mmx|llvm\.x86\.\w+)\b", code)
     unfit += [it for it in re.findall(r"(?<!-)\basm\b.*", text) if it != 'asm sideeffect "", "~{memory}"()']
-    # Each function that C calls has its arguments as they are: whether the caller extends a short one differs.
-    unfit += re.findall(r"^define (?!internal )[^{\n]*\b(?:zeroext|signext|byval|sret)\b[^{\n]*", text, re.M)
+    unfit += re.findall(r"^(?:declare|define (?!internal ))[^{\n]*\b(?:zeroext|signext|byval|sret)\b[^{\n]*", text, re.M)
     if unfit:
         raise Unfit(f"the module has {unfit[0]}")
     return re.sub(r"^target datalayout = .*\n", "", text, flags=re.M)
 
 
 def words_for(target, words):
-    """Returns the words of clang for a target: those for x86-64 Linux, with the target's own in the place of their kind."""
-    kept = [it for it in words if not it.startswith(("--target=", "--sysroot=", "-march="))]
+    """Returns the words of clang for a target: those for x86-64 Linux, but for what names that."""
+    named = ("--target=", "--sysroot=", *(["-march="] if target.words else []))
+    kept = [it for it in words if not it.startswith(named)]
     return [f"--target={target.triple}", *target.words, *kept]
 
 
 def compiled(target, text, words, room):
     """Compiles the text of a module, and returns the archive."""
     text = re.sub(r'^target triple = ".*"', f'target triple = "{target.triple}"', text, flags=re.M)
-    if target.is_aarch64:
+    if target.words:
         text = text.replace('"target-cpu"="x86-64-v2"', '"target-cpu"="generic"')
         text = text.replace('"probe-stack"=', '"frame-pointer"="non-leaf" "probe-stack"=')
     room.mkdir()
