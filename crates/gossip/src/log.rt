@@ -5,7 +5,7 @@ ghost use Rattle.std.specs.Prelude.{length, if◌then◌else◌, slice_get, Cont
 ghost use Rattle.std.specs.Prelude.{IfOk, OnOk, OnErr, IsSome, IfSome, IfNone};
 ghost use Rattle.gossip.specs.declared.message.Message.{Message};
 ghost use Rattle.gossip.specs.declared.message.Arrived.TheVariants.{Untimely};
-ghost use Rattle.gossip.specs.Spans.{is_had, top_of};
+ghost use Rattle.gossip.specs.Spans.{IsCoverage, is_had, top_of};
 ghost use Rattle.gossip.specs.Outbox.{lag};
 ghost use Rattle.gossip.specs.Showing.{covered};
 ghost use Rattle.gossip.specs.Sending.{charged, NoneDue, IsNext};
@@ -184,6 +184,7 @@ impl Log {
     /// further. It shows only what the floor and the listed messages cover, and of these messages
     /// exactly those up to its top. What it does not show up to its top, the log does not know.
     pub fn report(&self) -> Coverage
+        ensures coverage { IsCoverage 64 result }
         ensures within { (s : ℕ) → is_had s result ≡ true → is_had s (covered self.now) ≡ true }
         ensures listed { (m : Message) → Contains self.now.list m
             → is_had m.stamp result ≡ nat_le m.stamp (top_of result) }

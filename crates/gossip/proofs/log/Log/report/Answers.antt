@@ -4,6 +4,9 @@ use Rattle.gossip.proofs.log.Log.report.Goals as goal
 pub of-requires : goal.of-requires
 of-requires c = rw c.shown.ensures (is_coverage c.self.inside.kept.floor c.self.inside.kept.list.items c.self.invariant.2.rises c.self.invariant.2.later)
 
+pub returns-clause-coverage : goal.returns-clause-coverage
+returns-clause-coverage c = rw (c.of.ensures, c.shown.ensures) (is_coverage c.self.inside.kept.floor c.self.inside.kept.list.items c.self.invariant.2.rises c.self.invariant.2.later)
+
 pub returns-clause-within : goal.returns-clause-within
 returns-clause-within c = λ s h.
     rw (← c.self.view_is) (within s 63 (record { from = 0; to = c.self.inside.kept.floor }) c.self.inside.kept.list.items (rw (c.of.ensures, c.shown.ensures) at h))
