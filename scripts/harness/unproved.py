@@ -50,9 +50,16 @@ def place(file):
 def copy(top, with_choice=(), kept=()):
     """Copies what `rt` reads, and these crates. `with_choice` are crates whose code asks for the choice, or that are built;
     `kept` are crates whose libraries come along, as proved."""
-    built = [str(Path("crates") / it / "out") for it in os.listdir(TOP / "crates") if it not in kept]
-    ignored = lambda folder, names: [it for it in names if os.path.relpath(f"{folder}/{it}", TOP) in built]
-    shutil.copytree(TOP / "crates", top / "crates", ignore=ignored)
+
+    def unwanted(folder, names):
+        match Path(folder).relative_to(TOP / "crates").parts:
+            case [crate]:
+                return [] if crate in kept else ["out"]
+            case [_, "out"]:
+                return [it for it in names if it != "rlib"]
+        return []
+
+    shutil.copytree(TOP / "crates", top / "crates", ignore=unwanted)
     shutil.copy(TOP / "HANDLES", top)
     for path, to in sources():
         (top / to).parent.mkdir(parents=True, exist_ok=True)
