@@ -2,7 +2,7 @@
 
 use crate::identity::{Identity, PeerId};
 use crate::message::MAX_MESSAGE;
-use crate::output::MAX_WAITING;
+use crate::output::{Form, MAX_WAITING};
 use crate::{invalid, of};
 use broadcast_relay::gossip::{Bounds, OVERHEAD};
 use serde::{Deserialize, Deserializer, de::Error};
@@ -27,9 +27,9 @@ pub struct Config {
     /// Whether each line of the standard input is broadcast.
     #[serde(default)]
     pub input: bool,
-    /// Whether messages of peers are printed to the standard output.
-    #[serde(default = "yes")]
-    pub output: bool,
+    /// How messages of peers are printed to the standard output, if they are.
+    #[serde(default = "shown", deserialize_with = "form")]
+    pub output: Option<Form>,
     #[serde(default)]
     pub limits: Limits,
     #[serde(default, rename = "peer")]
@@ -91,8 +91,22 @@ impl Limits {
     }
 }
 
-fn yes() -> bool {
-    true
+fn shown() -> Option<Form> {
+    Some(Form::Shown)
+}
+
+fn form<'de, D: Deserializer<'de>>(from: D) -> Result<Option<Form>, D::Error> {
+    #[derive(Deserialize)]
+    #[serde(untagged)]
+    enum Value {
+        Whether(bool),
+        How(String),
+    }
+    match Value::deserialize(from) {
+        Ok(Value::Whether(is_printed)) => Ok(is_printed.then_some(Form::Shown)),
+        Ok(Value::How(how)) if how == "raw" => Ok(Some(Form::Raw)),
+        _ => Err(D::Error::custom("output is true, false or \"raw\"")),
+    }
 }
 
 fn key<'de, D: Deserializer<'de>>(from: D) -> Result<PeerId, D::Error> {
@@ -197,7 +211,7 @@ mod tests {
         let limits = format!("{:?}", config.limits);
         let names: Vec<_> = limits.split(' ').filter_map(|it| it.strip_suffix(':')).collect();
         assert!(names.iter().all(|it| text.contains(&format!("\n{it} = "))), "{names:?}");
-        assert!(config.output && config.peers.len() == 2);
+        assert!(config.output == Some(Form::Shown) && config.peers.len() == 2);
     }
 
     #[test]
@@ -213,6 +227,7 @@ mod tests {
             (peer("b", "a", "") + &peer("c", "a", ""), "twice"),
             (peer("b", "a", "") + &peer("b", "c", ""), "twice"),
             (peer("b", "x", ""), "hexadecimal"),
+            ("output = \"hex\"\n".into(), "raw"),
             (peer("b c", "a", ""), "no name"),
             (peer("own", "a", ""), "no name"),
             (peer("b", "a", "address = \"h\""), "no port"),

@@ -6,7 +6,7 @@ use crate::journal::{self, Journal};
 use crate::lock::Mutex;
 use crate::message::Signed;
 use crate::metrics::Metrics;
-use crate::output::{self, MAX_WAITING, Output};
+use crate::output::{self, Form, MAX_WAITING, Output};
 use crate::peer::{Author, Peer, Seat, Session};
 use crate::{invalid, now, wire};
 use broadcast_relay::gossip::{Frame, Machine, Message, NEVER, Past, Report, SECOND, Taken, Time};
@@ -39,7 +39,7 @@ pub struct Hub {
     unwritten: Mutex<Option<String>>,
     /// What a signature that is checked counts, in bytes.
     signature_cost: u64,
-    output: Option<Output>,
+    output: Option<(Output, Form)>,
 }
 
 /// The protocol, and what its numbers mean.
@@ -114,7 +114,7 @@ impl Hub {
         let start = || Output::start("output", io::stdout(), MAX_WAITING, &metrics.output_dropped);
         Ok(Hub {
             own: gossip.list(0, &own, author, Some(past)),
-            output: config.output.then(start).transpose()?,
+            output: config.output.map(|it| Ok::<_, io::Error>((start()?, it))).transpose()?,
             identity,
             metrics,
             gossip: Mutex::new(gossip),
@@ -196,7 +196,7 @@ impl Hub {
     /// Whether no peer is connected, and all that was delivered has been printed.
     pub fn is_done(&self) -> bool {
         self.gossip.lock().sessions().next().is_none()
-            && self.output.as_ref().is_none_or(Output::is_done)
+            && self.output.as_ref().is_none_or(|it| it.0.is_done())
     }
 
     /// Does something with the protocol, and wakes whoever has something to do then.
@@ -302,6 +302,9 @@ impl Hub {
             self.metrics.connected.with_label_values(&[name]).set(1);
             if seat.is_logged() {
                 info!(peer = name, is_dialed, "connected");
+            }
+            if seat.is_twofold(now) {
+                warn!(peer = name, "replaced again and again: is its key in two places?");
             }
             gossip.machine.disconnect(now, node);
             let mut far = round_trip.as_micros() as Time;
@@ -417,7 +420,7 @@ impl Hub {
         let PeerConfig { name, key, .. } = &author.config;
         self.metrics.delivered.with_label_values(&[name]).inc();
         let output = self.output.iter();
-        output.for_each(|it| it.print(*key, output::line(name, message).into_bytes()));
+        output.for_each(|(it, form)| it.print(*key, output::line(*form, name, message)));
     }
 
     /// Waits until more may be published: until no peer that is waited for is too far behind.

@@ -5,7 +5,7 @@ use crate::{invalid, of};
 use openssl::asn1::Asn1Time;
 use openssl::error::ErrorStack;
 use openssl::hash::MessageDigest;
-use openssl::pkey::{HasPublic, Id, PKey, PKeyRef, Private};
+use openssl::pkey::{HasPublic, Id, PKey, PKeyRef, Private, Public};
 use openssl::sha::sha256;
 use openssl::sign::{Signer, Verifier};
 use openssl::x509::{X509, X509Builder, X509Ref};
@@ -80,12 +80,20 @@ pub fn id_of(certificate: &X509Ref) -> Option<PeerId> {
     public(&key).map(|it| sha256(&it))
 }
 
-pub fn is_signed(public: &[u8], signature: &[u8], bytes: &[u8]) -> bool {
-    let verify = || {
-        let key = PKey::public_key_from_raw_bytes(public, Id::ED25519)?;
-        Verifier::new_without_digest(&key)?.verify_oneshot(signature, bytes)
-    };
-    verify().unwrap_or(false)
+/// The public key of an author.
+pub struct PublicKey(PKey<Public>);
+
+impl PublicKey {
+    /// Reads a key. Returns `None` for what is none.
+    pub fn parse(public: &[u8]) -> Option<PublicKey> {
+        PKey::public_key_from_raw_bytes(public, Id::ED25519).ok().map(PublicKey)
+    }
+
+    /// Whether the owner of the key signed bytes.
+    pub fn has_signed(&self, signature: &[u8], bytes: &[u8]) -> bool {
+        let verifier = Verifier::new_without_digest(&self.0);
+        verifier.and_then(|mut it| it.verify_oneshot(signature, bytes)).unwrap_or(false)
+    }
 }
 
 #[cfg(test)]
@@ -105,10 +113,11 @@ mod tests {
         let identity = Identity::generate().unwrap();
         let other = Identity::generate().unwrap();
         let signature = identity.sign(b"text").unwrap();
-        assert!(is_signed(&identity.public, &signature, b"text"));
-        assert!(!is_signed(&identity.public, &signature, b"Text"));
-        assert!(!is_signed(&other.public, &signature, b"text"));
-        assert!(!is_signed(&identity.public, &[0; 64], b"text"));
-        assert!(!is_signed(&[0; 3], &[], b"text"));
+        let [key, other] = [identity, other].map(|it| PublicKey::parse(&it.public).unwrap());
+        assert!(key.has_signed(&signature, b"text"));
+        assert!(!key.has_signed(&signature, b"Text"));
+        assert!(!other.has_signed(&signature, b"text"));
+        assert!(!key.has_signed(&[0; 64], b"text") && !key.has_signed(&[], b"text"));
+        assert!(PublicKey::parse(&[0; 3]).is_none());
     }
 }

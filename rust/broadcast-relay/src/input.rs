@@ -2,11 +2,17 @@
 
 use crate::hub::Hub;
 use crate::message::{MAX_BATCH, MAX_TEXT};
-use std::io::{self, BufRead, ErrorKind, Read};
+use std::fs::File;
+use std::io::{self, ErrorKind, Read};
+use std::os::fd::{AsFd, AsRawFd};
 use std::thread;
 use std::time::Duration;
+use tokio::io::Interest;
+use tokio::io::unix::AsyncFd;
+use tokio::runtime::Handle;
 use tokio::sync::mpsc::{self, Receiver};
-use tokio::time::{Instant, sleep, sleep_until};
+use tokio::sync::oneshot;
+use tokio::time::{Instant, sleep, sleep_until, timeout_at};
 use tracing::{error, info};
 
 /// How many lines wait. Whoever writes more has to wait too.
@@ -19,42 +25,96 @@ const PACE: Duration = Duration::from_millis(2);
 const REST: Duration = Duration::from_millis(10);
 const RETRY: Duration = Duration::from_secs(1);
 
+/// The lines that are read, until the input ends or the other end is dropped. Then what was read is among them, and no more is read.
+pub type Lines = (Receiver<Vec<u8>>, oneshot::Sender<()>);
+
 /// Starts to read lines in a thread of its own.
-pub fn start() -> io::Result<Receiver<Vec<u8>>> {
+pub fn start() -> io::Result<Lines> {
     let (sender, lines) = mpsc::channel(WAITING);
+    let (end, ends) = oneshot::channel();
+    let (input, runtime) = (io::stdin().as_fd().try_clone_to_owned()?.into(), Handle::current());
     thread::Builder::new().name("input".into()).spawn(move || {
-        let (mut input, mut line) = (io::stdin().lock(), Vec::new());
-        loop {
-            // A longer line is cut into several.
-            let room = MAX_TEXT - line.len();
-            match input.by_ref().take(room as u64).read_until(b'\n', &mut line) {
-                Ok(len) if len > 0 => {}
-                // Whoever started the relay may have set it not to block.
-                Err(why) if why.kind() == ErrorKind::WouldBlock => {
-                    thread::sleep(REST);
-                    continue;
-                }
-                _ => return info!("the input has ended"),
-            }
-            let mut line = std::mem::take(&mut line);
-            while line.last().is_some_and(|it| matches!(it, b'\n' | b'\r')) {
-                line.pop();
-            }
-            if !line.is_empty() && sender.blocking_send(line).is_err() {
-                return;
-            }
-        }
+        let why =
+            read(input, ends, &runtime, |it| it.is_empty() || sender.blocking_send(it).is_ok());
+        info!(why, "the input is not read any more");
     })?;
-    Ok(lines)
+    Ok((lines, end))
 }
 
-/// Publishes all lines, those that have come meanwhile together. Returns at the end of the input, or once no line waits if the relay
-/// ends. Dropping the future loses no line: none is taken before it may be published.
-pub async fn publish(hub: &Hub, lines: &mut Receiver<Vec<u8>>, is_ending: bool) {
+/// Calls `each` with the lines of an input, until that or the relay ends, or `each` refuses one. Returns why.
+fn read(
+    mut input: File,
+    mut ends: oneshot::Receiver<()>,
+    runtime: &Handle,
+    mut each: impl FnMut(Vec<u8>) -> bool,
+) -> &'static str {
+    let (mut bytes, mut line) = (vec![0; 16 << 10], Vec::new());
     loop {
-        hub.may_publish().await;
-        let line = if is_ending { lines.try_recv().ok() } else { lines.recv().await };
-        let Some(line) = line else { return };
+        // What is read at the end would be lost for who reads this input next.
+        if !runtime.block_on(is_readable(&input, &mut ends)) {
+            each(text(line));
+            return "the relay ends";
+        }
+        let read = match input.read(&mut bytes) {
+            Ok(len) if len > 0 => &bytes[..len],
+            // Whoever started the relay may have set it not to block.
+            Err(why) if why.kind() == ErrorKind::WouldBlock => {
+                thread::sleep(REST);
+                continue;
+            }
+            _ => {
+                each(text(line));
+                return "it has ended";
+            }
+        };
+        for mut part in read.split_inclusive(|it| *it == b'\n') {
+            // A longer line is cut into several.
+            while !part.is_empty() {
+                let (some, others) = part.split_at(part.len().min(MAX_TEXT - line.len()));
+                line.extend_from_slice(some);
+                part = others;
+                let is_whole = line.ends_with(b"\n") || line.len() == MAX_TEXT;
+                if is_whole && !each(text(std::mem::take(&mut line))) {
+                    return "the relay has ended";
+                }
+            }
+        }
+    }
+}
+
+/// Waits until there is something to be read, or the relay ends. Returns whether it is to be read.
+async fn is_readable(input: &File, ends: &mut oneshot::Receiver<()>) -> bool {
+    // A file is always readable.
+    let waits = AsyncFd::with_interest(input.as_raw_fd(), Interest::READABLE);
+    let readable = async {
+        if let Ok(waits) = &waits {
+            let _ = waits.readable().await;
+        }
+    };
+    tokio::select! {
+        biased;
+        _ = ends => false,
+        () = readable => true,
+    }
+}
+
+/// A line without its end.
+fn text(mut line: Vec<u8>) -> Vec<u8> {
+    while line.last().is_some_and(|it| matches!(it, b'\n' | b'\r')) {
+        line.pop();
+    }
+    line
+}
+
+/// Publishes all lines, those that have come meanwhile together. Returns at the end of the input. From a time on it waits for nobody,
+/// if the relay ends. Dropping the future loses no line: none is taken before it may be published.
+pub async fn publish(hub: &Hub, lines: &mut Receiver<Vec<u8>>, end: Option<Instant>) {
+    loop {
+        match end {
+            Some(end) => drop(timeout_at(end, hub.may_publish()).await),
+            None => hub.may_publish().await,
+        }
+        let Some(line) = lines.recv().await else { return };
         let next = Instant::now() + PACE;
         let (mut bytes, mut batch) = (line.len(), vec![line]);
         while batch.len() < MAX_BATCH

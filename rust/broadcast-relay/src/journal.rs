@@ -198,15 +198,20 @@ fn parse(bytes: &[u8], past: &mut Past, most: u64) -> (usize, usize) {
     }
     let (mut at, mut wrong) = (HEAD, usize::from(covered.is_none()));
     let mut parsed = (at, wrong);
-    // Wrong records at the end may be no records at all.
-    while let Some((message, end)) = parse_record(bytes, at) {
-        at = end;
-        match message {
-            Some(message) => {
+    // Wrong records at the end may be no records at all. Behind a wrong one, the next may begin anywhere, also within a text of the
+    // author: so from there on it counts only with a signature.
+    let mut is_sure = true;
+    while at < bytes.len() {
+        match parse_record(bytes, at).filter(|(it, _)| is_sure || it.is_signed()) {
+            Some((message, end)) => {
                 past.push(message, most);
+                at = end;
                 parsed = (at, wrong);
             }
-            None => wrong += 1,
+            None => {
+                wrong += usize::from(is_sure);
+                (at, is_sure) = (at + 1, false);
+            }
         }
     }
     parsed
@@ -218,8 +223,8 @@ fn parse_head(head: &[u8]) -> Option<Coverage> {
     if *found == check(&[rest]) { Coverage::decode(covered) } else { None }
 }
 
-/// Reads the record at a place. Returns the message, unless it is wrong, and where the record ends.
-fn parse_record(bytes: &[u8], at: usize) -> Option<(Option<Signed>, usize)> {
+/// Reads the record at a place. Returns the message, if it is whole, and where the record ends.
+fn parse_record(bytes: &[u8], at: usize) -> Option<(Signed, usize)> {
     let (len, rest) = bytes.get(at..)?.split_first_chunk::<4>()?;
     let (found, rest) = rest.split_first_chunk::<CHECK>()?;
     let message = rest.get(..u32::from_be_bytes(*len) as usize)?;
@@ -229,7 +234,7 @@ fn parse_record(bytes: &[u8], at: usize) -> Option<(Option<Signed>, usize)> {
     let end = at + RECORD + message.len();
     let is_whole = *found == check(&[len, message]);
     let message = is_whole.then(|| Signed::decode(Bytes::copy_from_slice(message)).ok()).flatten();
-    Some((message, end))
+    message.map(|it| (it, end))
 }
 
 #[cfg(test)]
@@ -330,11 +335,11 @@ mod tests {
         let good = fs::read(&file).unwrap();
         let record = (good.len() - HEAD) / 5;
         let second = HEAD + record;
-        // A bit of the second text, of its stamp, and of its length, which hides all behind it; an unfinished end; another version.
+        // A bit of the second text, of its stamp, and of its length; an unfinished end; another version.
         for (at, len, left) in [
             (second + record - 9, good.len(), &[1, 3, 4, 5][..]),
             (second + RECORD + 103, good.len(), &[1, 3, 4, 5]),
-            (second + 1, good.len(), &[1]),
+            (second + 1, good.len(), &[1, 3, 4, 5]),
             (good.len(), good.len() - 3, &[1, 2, 3, 4]),
             (MAGIC.len() - 1, good.len(), &[]),
         ] {
@@ -349,6 +354,29 @@ mod tests {
             let (_, past) = Journal::open(&folder, &author.id, 1 << 20).unwrap();
             assert_eq!(stamps(&past), [left, &[9]].concat());
         }
+        fs::remove_dir_all(&folder).unwrap();
+    }
+
+    /// Behind damage a record may stand within a text, as its author likes.
+    #[test]
+    fn what_stands_in_a_text_is_read_only_with_a_signature() {
+        let (folder, author) = (folder("journal-nested"), Identity::generate().unwrap());
+        let record = |bytes: &[u8]| {
+            let len = (bytes.len() as u32).to_be_bytes();
+            [&len[..], &check(&[&len, bytes]), bytes].concat()
+        };
+        let mut forged = message(&author, 7)[0].bytes.to_vec();
+        forged[0] ^= 1;
+        let text = record(&forged);
+        let (mut journal, _) = Journal::open(&folder, &author.id, 1 << 20).unwrap();
+        journal.append(&Signed::batch(&author, (1, 2), &[text]).unwrap()).unwrap();
+        journal.append(&message(&author, 3)).unwrap();
+        let file = folder.join(hex::encode(author.id));
+        let mut bytes = fs::read(&file).unwrap();
+        bytes[HEAD + 1] ^= 4;
+        fs::write(&file, &bytes).unwrap();
+        let (_, past) = Journal::open(&folder, &author.id, 1 << 20).unwrap();
+        assert_eq!(stamps(&past), [3]);
         fs::remove_dir_all(&folder).unwrap();
     }
 

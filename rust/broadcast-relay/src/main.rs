@@ -85,7 +85,8 @@ fn run(command: Command) -> io::Result<()> {
             Config::load(&config)?.entry(&name).map(|it| print!("{it}"))
         }
         Command::Log { journal } => journal::read(&journal, |it| {
-            print!("{}", output::line(&hex::encode(it.author), &it));
+            let line = output::line(output::Form::Shown, &hex::encode(it.author), &it);
+            print!("{}", String::from_utf8_lossy(&line));
         }),
     }
 }

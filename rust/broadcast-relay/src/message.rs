@@ -9,7 +9,7 @@
 //! A signature covers the root of a hash tree over the digests of messages that were typed together. Each message carries the hashes
 //! beside its way to the root, so it can be checked by itself, and who has checked one message of a batch need not check another.
 
-use crate::identity::{Identity, PeerId, is_signed};
+use crate::identity::{Identity, PeerId, PublicKey};
 use bytes::{Buf, Bytes};
 use openssl::error::ErrorStack;
 use openssl::sha::Sha256;
@@ -89,9 +89,14 @@ impl Signed {
         Seal { root, signature: self.bytes.first_chunk().copied().unwrap_or([0; 64]) }
     }
 
-    /// Whether the author has signed the seal.
-    pub fn is_signed(&self, seal: &Seal) -> bool {
-        is_signed(&self.bytes[PUBLIC], &seal.signature, &seal.root)
+    /// The author's key, which is the same in all its messages.
+    pub fn key(&self) -> Option<PublicKey> {
+        PublicKey::parse(&self.bytes[PUBLIC])
+    }
+
+    /// Whether the author has signed the message, for whoever checks only one.
+    pub fn is_signed(&self) -> bool {
+        self.key().is_some_and(|it| self.seal().is_of(&it))
     }
 
     /// Reads a message, without a look at the signature.
@@ -115,6 +120,13 @@ impl Signed {
 pub struct Seal {
     root: Hash,
     signature: [u8; 64],
+}
+
+impl Seal {
+    /// Whether the owner of a key has signed it.
+    pub fn is_of(&self, key: &PublicKey) -> bool {
+        key.has_signed(&self.signature, &self.root)
+    }
 }
 
 type Hash = [u8; 32];
@@ -171,12 +183,12 @@ mod tests {
                 assert_eq!((read.author, read.prev, read.stamp), (author.id, prev, stamp));
                 assert_eq!(read.text(), &text[..]);
                 prev = stamp;
-                assert!(read.seal() == seal && read.is_signed(&seal));
+                assert!(read.seal() == seal && read.is_signed());
                 for at in [0, PUBLIC.start, STAMP.start, PREV.end - 1, message.bytes.len() - 1] {
                     let mut bytes = message.bytes.to_vec();
                     bytes[at] ^= 1;
                     let forged = Signed::decode(bytes.into());
-                    assert!(!forged.is_ok_and(|it| it.is_signed(&it.seal())), "byte {at}");
+                    assert!(!forged.is_ok_and(|it| it.is_signed()), "byte {at}");
                 }
             }
         }

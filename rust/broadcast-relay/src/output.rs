@@ -142,19 +142,34 @@ fn write_all(out: &mut File, mut batch: &[u8]) -> bool {
     true
 }
 
-/// How a message is printed: `AUTHOR STAMP TEXT`.
-pub fn line(author: &str, message: &Signed) -> String {
-    format!("{author} {} {}\n", message.stamp, shown(message.text()))
+/// How messages are printed.
+#[derive(Clone, Copy, Debug, PartialEq, Eq)]
+pub enum Form {
+    /// `AUTHOR STAMP TEXT`, without what a terminal obeys.
+    Shown,
+    /// `AUTHOR STAMP LENGTH` and, on a line of its own, the text as it was typed.
+    Raw,
+}
+
+/// How a message is printed.
+pub fn line(form: Form, author: &str, message: &Signed) -> Vec<u8> {
+    let (stamp, text) = (message.stamp, message.text());
+    match form {
+        Form::Shown => format!("{author} {stamp} {}\n", shown(text)).into_bytes(),
+        Form::Raw => {
+            [format!("{author} {stamp} {}\n", text.len()).as_bytes(), text, b"\n"].concat()
+        }
+    }
 }
 
 /// The text without what a terminal obeys, or what turns it round.
 fn shown(text: &[u8]) -> String {
     let hides = |it: char| {
-        it.is_control()
+        (it.is_control() && it != '\t')
             || matches!(it, '\u{61c}' | '\u{200b}'..='\u{200f}' | '\u{2028}'..='\u{202e}' | '\u{2066}'..='\u{2069}' | '\u{feff}')
     };
     let shown = String::from_utf8_lossy(text);
-    match text.iter().all(|it| matches!(it, b' '..=b'~')) {
+    match text.iter().all(|it| matches!(it, b'\t' | b' '..=b'~')) {
         true => shown.into_owned(),
         false => shown.replace(hides, "\u{fffd}"),
     }
@@ -226,6 +241,7 @@ mod tests {
     #[test]
     fn what_a_terminal_obeys_is_not_shown() {
         assert_eq!(shown("ä \u{1b}[2J\u{202e}x\u{2066}\u{61c}\n".as_bytes()), "ä �[2J�x���");
-        assert_eq!(shown(&[0xff, b'a']), "�a");
+        assert_eq!(shown(&[0xff, b'a', b'\t', b'b']), "�a\tb");
+        assert_eq!((shown(b"a\tb"), shown("ä\tb".as_bytes())), ("a\tb".into(), "ä\tb".into()));
     }
 }

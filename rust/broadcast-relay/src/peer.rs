@@ -1,6 +1,7 @@
 //! A peer: its connection, and what a relay has of it as an author beside its log.
 
 use crate::config::PeerConfig;
+use crate::identity::PublicKey;
 use crate::journal::Journal;
 use crate::lock::Mutex;
 use crate::message::{Seal, Signed};
@@ -33,6 +34,7 @@ pub struct Peer {
 #[derive(Default)]
 pub struct Author {
     pub journal: Option<Journal>,
+    key: Option<PublicKey>,
     seals: VecDeque<Seal>,
 }
 
@@ -43,7 +45,10 @@ impl Author {
         if self.seals.contains(&seal) {
             return Ok(0);
         }
-        if !message.is_signed(&seal) {
+        if self.key.is_none() {
+            self.key = message.key();
+        }
+        if !self.key.as_ref().is_some_and(|it| seal.is_of(it)) {
             return Err("a wrong signature");
         }
         self.seals.truncate(SEALS - 1);
@@ -114,6 +119,9 @@ pub struct Seat {
     pub lost: Trouble,
     bar: Bar,
     logged: Bucket,
+    /// How often its connection was replaced since when.
+    replaced: u32,
+    counted: Time,
 }
 
 impl Seat {
@@ -125,6 +133,8 @@ impl Seat {
             lost: Trouble::default(),
             bar: Bar::default(),
             logged: Bucket::new(LOGGED.0, LOGGED.1),
+            replaced: 0,
+            counted: 0,
         }
     }
 
@@ -144,9 +154,20 @@ impl Seat {
                 return Err("another connection stays");
             }
             old.ended.notify_one();
+            self.replaced += 1;
         }
         self.session = Some(new);
         Ok(())
+    }
+
+    /// Whether it is to be said that the peer's connection is replaced again and again: five times in a minute.
+    pub fn is_twofold(&mut self, now: Time) -> bool {
+        if now >= self.counted + 60 * SECOND {
+            (self.counted, self.replaced) = (now, 0);
+        }
+        let is_due = self.replaced >= 5;
+        self.replaced *= u32::from(!is_due);
+        is_due
     }
 
     /// Whether a connection has the place.
@@ -189,6 +210,23 @@ mod tests {
         seat.attach(second.clone(), true).unwrap();
         assert!(seat.is_of(&second) && !seat.is_of(&first));
         assert!(timeout(Duration::from_secs(9), first.ended.notified()).await.is_ok());
+    }
+
+    #[test]
+    fn a_key_in_two_places_is_noticed() {
+        let mut seat = Seat::new();
+        for minute in 0..9 {
+            // Once in a while a connection is replaced, as where a peer's address changes.
+            seat.attach(session(false), true).unwrap();
+            assert!(!seat.is_twofold(minute * 60 * SECOND));
+        }
+        let now = 600 * SECOND;
+        assert!(!seat.is_twofold(now));
+        let noticed = (0..12).filter(|_| {
+            seat.attach(session(false), true).unwrap();
+            seat.is_twofold(now + SECOND)
+        });
+        assert_eq!(noticed.count(), 2);
     }
 
     #[test]

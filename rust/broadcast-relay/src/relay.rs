@@ -23,8 +23,8 @@ use std::time::Duration;
 use tokio::net::TcpListener;
 use tokio::runtime::Builder;
 use tokio::signal::unix::{SignalKind, signal};
-use tokio::sync::{Semaphore, mpsc};
-use tokio::time::{sleep, timeout};
+use tokio::sync::{Semaphore, mpsc, oneshot};
+use tokio::time::{Instant, sleep, timeout};
 use tracing::{info, warn};
 
 /// How long an end may wait until all is printed, and each peer has read all own messages.
@@ -54,9 +54,12 @@ async fn serve(file: &Path, config: Config, metrics: Metrics) -> io::Result<()> 
     let mut hangup = signal(SignalKind::hangup())?;
     let (network, _folder) = start(&config, metrics).await?;
     let hub = &network.hub;
-    let mut lines = if config.input { input::start()? } else { mpsc::channel(1).1 };
+    let (mut lines, end) = match config.input {
+        true => input::start()?,
+        false => (mpsc::channel(1).1, oneshot::channel().0),
+    };
     let publishes = async {
-        input::publish(hub, &mut lines, false).await;
+        input::publish(hub, &mut lines, None).await;
         pending().await
     };
     let hangs_up = async {
@@ -76,6 +79,7 @@ async fn serve(file: &Path, config: Config, metrics: Metrics) -> io::Result<()> 
         why = publishes => why,
     };
     info!(why, "ends");
+    drop(end);
     drain(hub, lines).await;
     let page = hub.metrics_page();
     let counted = page.lines().filter(|it| !it.starts_with('#') && !it.ends_with(" 0"));
@@ -86,8 +90,9 @@ async fn serve(file: &Path, config: Config, metrics: Metrics) -> io::Result<()> 
 
 /// Publishes what was read, and waits until each peer has all own messages and has closed, and all is printed, for a while.
 async fn drain(hub: &Hub, mut lines: mpsc::Receiver<Vec<u8>>) {
+    let end = Instant::now() + DRAIN / 2;
     let all = async {
-        input::publish(hub, &mut lines, true).await;
+        input::publish(hub, &mut lines, Some(end)).await;
         hub.end();
         while !hub.is_done() {
             sleep(POLL).await;

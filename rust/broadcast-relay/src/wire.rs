@@ -159,7 +159,7 @@ mod tests {
                 assert_eq!(bytes_of(&frame)[4..], bytes);
             }
             if let Ok(message) = Signed::decode(bytes) {
-                assert!(!message.is_signed(&message.seal()) && message.text().len() <= 400);
+                assert!(!message.is_signed() && message.text().len() <= 400);
             }
         }
     }

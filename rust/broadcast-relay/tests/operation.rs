@@ -183,7 +183,8 @@ fn the_metrics_are_served_beside_silent_connections() {
     relays[0].start();
     let silent: Vec<TcpStream> =
         (0..64).map(|_| TcpStream::connect(relays[0].metrics).unwrap()).collect();
-    assert!(relays[0].http("/healthz").ends_with("no peer is connected\n"));
+    let words = "no peer is connected\n";
+    wait_for(words, || relays[0].http("/healthz").ends_with(words));
     drop(silent);
 }
 
@@ -197,6 +198,66 @@ fn a_relay_that_is_not_listed_is_told() {
     let words = "refused: r0 does not list this relay's key";
     wait_for(words, || relays[1].log().contains(words));
     assert!(!relays[1].log().contains("connected"));
+}
+
+/// The next process reads on where this one ended, as from a FIFO.
+#[test]
+fn an_end_loses_no_line_that_was_read() {
+    const COUNT: usize = 600;
+    let mut relays = pair("ends");
+    relays[1].start();
+    let (input, mut lines) = io::pipe().unwrap();
+    let writer = spawn(move || {
+        for it in 0..COUNT {
+            writeln!(lines, "{it}").unwrap();
+            sleep(Duration::from_millis(5));
+        }
+        lines
+    });
+    for part in 1..4 {
+        relays[0].start_with(Stdio::from(OwnedFd::from(input.try_clone().unwrap())), Stdio::null());
+        wait_for("some lines", || relays[1].delivered("r0") > COUNT * part / 5);
+        assert!(relays[0].terminate());
+    }
+    relays[0].start_with(Stdio::from(OwnedFd::from(input)), Stdio::null());
+    wait_for("all lines", || relays[1].delivered("r0") == COUNT);
+    drop(writer.join().unwrap());
+    wait_for("the output", || relays[1].printed_count() == COUNT);
+    assert!(relays[1].counted().values().all(|it| *it == 1));
+}
+
+/// The list has two thirds of what is typed before anybody is there.
+#[test]
+fn input_waits_for_the_first_peer() {
+    let mut relays = pair("first");
+    relays[0].start();
+    let mut author = relays.remove(0);
+    let writer = spawn(move || {
+        (0..600).for_each(|it| author.write(&format!("{it} {}", "x".repeat(10_000))));
+        author
+    });
+    sleep(Duration::from_secs(1));
+    relays[0].start();
+    wait_for("all lines", || relays[0].delivered("r0") == 600);
+    assert!(writer.join().unwrap().terminate());
+}
+
+#[test]
+fn a_text_is_printed_as_it_was_typed_if_asked_for() {
+    let mut relays = pair("raw");
+    let config = fs::read_to_string(relays[1].config()).unwrap();
+    fs::write(relays[1].config(), format!("output = \"raw\"\n{config}")).unwrap();
+    let printed = relays[1].folder.join("printed");
+    relays[1].start_with(Stdio::null(), fs::File::create(&printed).unwrap().into());
+    relays[0].start();
+    let text = b"tab\there \x1b[2J \xff \xe2\x80\x8d";
+    let mut input = relays[0].take_input();
+    input.write_all(&[&text[..], b"\n"].concat()).unwrap();
+    let end = [format!(" {}\n", text.len()).as_bytes(), text, b"\n"].concat();
+    wait_for("the text", || {
+        let printed = fs::read(&printed).unwrap();
+        printed.starts_with(b"r0 ") && printed.ends_with(&end)
+    });
 }
 
 /// A peer stands still for longer than it is waited for, and what it lacks leaves the list of an author at full speed.

@@ -246,7 +246,10 @@ impl Log {
     /// Sees what nobody can send any more: all that lay for a while below the lists of all peers that report this author. While the
     /// author may come back, it is given time.
     fn settle(&mut self, now: Time, links: &Links) {
-        let reports = || links.others(None).filter_map(|it| self.views[it].session.theirs.as_ref());
+        // Who is barred does not bring what it shows.
+        let views = || links.others(None).map(|it| &self.views[it]);
+        let free = || views().filter(|it| it.bar.until(now).is_none());
+        let reports = || free().filter_map(|it| it.session.theirs.as_ref());
         let low = reports().map(|it| it.since).min().map_or(0, |it| it.min(self.covered.top()));
         if low <= self.lost_upto {
             self.losing = None;

@@ -2,7 +2,7 @@
 
 use super::links::{Link, Links};
 use super::log::Log;
-use super::{Bounds, Coverage, Frame, List, Malformed, Message, NEVER, Report, Time};
+use super::{Bounds, Coverage, Frame, List, Malformed, Message, NEVER, Report, SECOND, Time};
 use bytes::Bytes;
 
 /// What is known of an author from before a start.
@@ -24,6 +24,23 @@ pub enum Taken {
     Unlisted,
 }
 
+/// What is awaited before the first own message: what the peers have of the own log. So no stamp is used that they cover already, and
+/// nothing is published that nobody is there to get.
+#[derive(Debug, Default)]
+struct Start {
+    is_over: bool,
+    /// When the wait began, and when the first peer had reported all that it lists.
+    began: Option<Time>,
+    met: Option<Time>,
+    /// Nobody came for long.
+    is_late: bool,
+    /// When it is to be looked at again.
+    wake: Time,
+}
+
+/// For how long others are awaited once one peer has reported.
+const OTHERS: Time = SECOND;
+
 /// Authors and peers are one set of nodes, which have the same numbers: `0..`, in the order in which they were added.
 #[derive(Debug)]
 pub struct Machine {
@@ -31,6 +48,7 @@ pub struct Machine {
     own: usize,
     /// The stamp of the last own message, if it is known.
     last: Option<u64>,
+    start: Start,
     logs: Vec<Log>,
     links: Links,
     spread: u64,
@@ -39,7 +57,8 @@ pub struct Machine {
 impl Machine {
     /// Creates a relay that is the node `own`. Other relays have another `spread`.
     pub fn new(bounds: Bounds, own: usize, spread: u64) -> Machine {
-        Machine { bounds, own, last: None, logs: Vec::new(), links: Links::default(), spread }
+        let (last, start, logs, links) = (None, Start::default(), Vec::new(), Links::default());
+        Machine { bounds, own, last, start, logs, links, spread }
     }
 
     /// Adds a node. Returns its number.
@@ -114,9 +133,43 @@ impl Machine {
         }
     }
 
-    /// Whether an own message may be published: no peer that is waited for is too far behind.
+    /// Whether an own message may be published: no peer that is waited for is too far behind, and it is known what peers have. If
+    /// nobody comes for long, half of a list may be published for whoever comes later.
     pub fn may_publish(&self) -> bool {
-        !self.logs[self.own].is_held
+        let log = &self.logs[self.own];
+        let is_alone = self.start.is_late && self.start.met.is_none();
+        let has_room = is_alone && log.list.bytes() < self.bounds.behind;
+        !log.is_held && (self.start.is_over || has_room)
+    }
+
+    /// Sees whether the first own message need wait no more: peers have reported, all that are listed or for a while, and what they
+    /// have of the own log has come, or time is over.
+    fn begin(&mut self, now: Time) {
+        if self.start.is_over {
+            return;
+        }
+        let (own, patience) = (&self.logs[self.own], self.bounds.patience);
+        let peers: Vec<usize> = self.listed().into_iter().filter(|it| *it != self.own).collect();
+        let has_reported = |it: &&usize| self.links.each[**it].has_reported;
+        let count = peers.iter().filter(has_reported).count();
+        // Who is barred has claimed what it does not bring.
+        let is_behind = own.views.iter().any(|it| {
+            it.bar.until(now).is_none() && it.session.shows(&own.covered, u64::MAX).is_some()
+        });
+        let start = &mut self.start;
+        let began = *start.began.get_or_insert(now);
+        if count > 0 {
+            start.met.get_or_insert(now);
+        }
+        start.is_late |= now >= began + patience;
+        (start.is_over, start.wake) = match start.met {
+            None if start.is_late => (peers.is_empty(), NEVER),
+            None => (peers.is_empty(), began + patience),
+            Some(met) if is_behind => {
+                (now >= met + patience, (met + patience).min(now + OTHERS / 4))
+            }
+            Some(met) => (count == peers.len() || now >= met + OTHERS, met + OTHERS),
+        };
     }
 
     /// The interval of the next own message, by the time of a clock. After a start without a journal the first message covers nothing
@@ -165,12 +218,17 @@ impl Machine {
             return Ok(Taken::LeftOut);
         }
         log.bucket.charge(now, message.size().max(self.bounds.least));
+        let is_own = message.author == self.own;
         self.accept(now, from, message);
+        if is_own {
+            self.begin(now);
+        }
         Ok(Taken::New)
     }
 
     /// Takes a peer's report of an author.
     pub fn report(&mut self, now: Time, peer: usize, author: usize, report: Report) {
+        let is_of_own = author == self.own;
         let log = &mut self.logs[author];
         if log.is_listed {
             if self.links.each[peer].has_reported && log.views[peer].session.theirs.is_none() {
@@ -184,6 +242,9 @@ impl Machine {
         if author == peer && !std::mem::replace(&mut self.links.each[peer].has_reported, true) {
             self.listed().into_iter().for_each(|it| self.step(now, it));
         }
+        if is_of_own || author == peer {
+            self.begin(now);
+        }
     }
 
     /// Charges an author for something beside the bytes of its messages.
@@ -193,6 +254,9 @@ impl Machine {
 
     /// Does what is due by now.
     pub fn timeout(&mut self, now: Time) {
+        if self.start.wake <= now {
+            self.begin(now);
+        }
         for author in 0..self.logs.len() {
             if self.logs[author].wake <= now {
                 self.step(now, author);
@@ -204,7 +268,8 @@ impl Machine {
 
     /// When `timeout` is due.
     pub fn next_time(&self) -> Time {
-        self.logs.iter().map(|it| it.wake).min().unwrap_or(NEVER)
+        let start = if self.start.is_over { NEVER } else { self.start.wake };
+        self.logs.iter().map(|it| it.wake).min().unwrap_or(NEVER).min(start)
     }
 
     /// The peers for whom there may be frames since the last call.

@@ -10,14 +10,14 @@ use broadcast_relay::gossip::{
 };
 use scenes::CLASSES;
 use verdict::Outcome;
-use world::{Random, World, machine};
+use world::{Node, Random, World, machine};
 
 fn check(class: &str, world: World) -> Outcome {
     let outcome = world.run(true);
     let Outcome { wrong, what, copies, deliveries, .. } = &outcome;
     assert!(wrong.is_empty(), "{class}, {what}: {} of {}", wrong[0], wrong.len());
     // Each message comes once, but for what is in flight when feeders change.
-    let most = if ["crash", "mixed"].contains(&class) { 1.6 } else { 1.25 };
+    let most = if ["crash", "mixed", "long"].contains(&class) { 1.6 } else { 1.25 };
     let is_few = *copies as f64 <= most * *deliveries as f64;
     assert!(*deliveries < 5_000 || is_few, "{class}, {what}: {copies} copies of {deliveries}");
     outcome
@@ -38,6 +38,29 @@ fn in_each_class_of_runs_all_arrives_once() {
             deliveries += check(class, world).deliveries;
         }
         assert!(deliveries > 0, "{class}");
+    }
+}
+
+/// How much later than in the same runs without hostile relays it comes what slow authors say.
+#[test]
+#[ignore = "it takes long, and prints numbers"]
+fn twins() {
+    println!("class: ms of slow authors p50 p99 p99.9 max, without hostile relays");
+    for class in CLASSES {
+        let (mut with, mut without) = (Outcome::default(), Outcome::default());
+        for world in small_runs(class, 4 * SECOND, false).take(4) {
+            with.slow_ages.extend(check(class, world).slow_ages);
+        }
+        for mut world in small_runs(class, 4 * SECOND, false).take(4) {
+            world.nodes.iter_mut().filter(|it| !it.is_honest()).for_each(Node::leave);
+            without.slow_ages.extend(check(class, world).slow_ages);
+        }
+        let numbers = [with, without].map(|mut it| {
+            it.slow_ages.sort_unstable();
+            let last = it.slow_ages.len().saturating_sub(1);
+            [500, 990, 999, 1_000].map(|part| it.slow_ages.get(last * part / 1_000).copied())
+        });
+        println!("{class}: {numbers:?}");
     }
 }
 
@@ -162,6 +185,13 @@ fn who_brings_what_came_meanwhile_breaks_no_rule() {
     }
 }
 
+fn hand(now: u64, relay: &mut Machine, from: usize, frame: Frame) {
+    match frame {
+        Frame::Report(author, report) => relay.report(now, from, author, report),
+        Frame::Message(it) => drop(take(now, relay, from, it)),
+    }
+}
+
 /// Carries all frames between relays, whose places are their numbers.
 fn meet(now: u64, relays: &mut [&mut Machine]) {
     let ways = (0..relays.len()).flat_map(|from| (0..relays.len()).map(move |to| (from, to)));
@@ -172,10 +202,7 @@ fn meet(now: u64, relays: &mut [&mut Machine]) {
         for &(from, to) in &ways {
             let Some(frame) = relays[from].frame(now, to) else { continue };
             is_quiet = false;
-            match frame {
-                Frame::Report(author, report) => relays[to].report(now, from, author, report),
-                Frame::Message(it) => drop(take(now, relays[to], from, it)),
-            }
+            hand(now, relays[to], from, frame);
         }
     }
 }
@@ -208,6 +235,104 @@ fn an_author_that_lost_its_journal_closes_nothing() {
     assert_eq!(publish(50, 901, &mut one), (1_005, 1_006));
     meet(60, &mut [&mut one, &mut other]);
     assert!(other.log(0).covered.runs().eq([(899, 900), (1_000, 1_006)]));
+}
+
+/// A message of 10 bytes of author 0.
+fn own(prev: u64, stamp: u64) -> Message {
+    Message { author: 0, stamp, prev, bytes: vec![0; 10].into() }
+}
+
+/// An author that starts without its journal, or with an old one, waits until it has what its peers have of its log.
+#[test]
+fn an_author_uses_no_stamp_that_its_peers_have() {
+    for old in [0, 1_002] {
+        let past = |upto| Past {
+            messages: (1_000..=upto).map(|it| own(it - 1, it)).collect(),
+            ..Past::default()
+        };
+        let bounds = Bounds::default();
+        let mut one = machine(&bounds, 0, 3, Some(vec![past(old)]));
+        let mut other = machine(&bounds, 1, 3, Some(vec![past(1_005)]));
+        let mut third = machine(&bounds, 2, 3, Some(vec![past(1_002)]));
+        // A peer that has no more than it comes first, and then one that has more.
+        for now in (0..100).map(|it| it * SECOND / 100) {
+            for (at, node, peer) in [(0, 2, &mut third), (SECOND / 2, 1, &mut other)] {
+                if now == at {
+                    one.connect(now, node, 100);
+                    peer.connect(now, 0, 100);
+                }
+            }
+            assert!(now > SECOND / 2 || !one.may_publish(), "{old}");
+            let mut relays = [&mut one, &mut other, &mut third];
+            meet(now, &mut relays);
+            relays.iter_mut().for_each(|it| it.timeout(now));
+        }
+        assert!(one.may_publish(), "{old}");
+        // Its clock went back. The first message covers nothing that was said before.
+        assert_eq!(publish(SECOND, 1_003, &mut one), (1_005, 1_006));
+    }
+}
+
+/// Who claims more of an author's log than there is stops the author for a while only.
+#[test]
+fn who_claims_an_authors_future_does_not_stop_it() {
+    let mut relay = machine(&Bounds::default(), 0, 3, None);
+    (1..3).for_each(|it| relay.connect(0, it, 100));
+    let coverage = Coverage::up_to(u64::MAX);
+    relay.report(0, 1, 0, Report { coverage, ..Report::default() });
+    relay.report(0, 1, 1, Report::default());
+    relay.report(0, 2, 0, Report::default());
+    relay.report(0, 2, 2, Report::default());
+    assert!(!relay.may_publish());
+    (0..601).for_each(|it| relay.timeout(it * SECOND / 100));
+    assert!(relay.may_publish());
+    assert_eq!(relay.next_own(1_000), (999, 1_000));
+}
+
+/// Input waits for the first peer. If none comes for long, half of a list is published for whoever comes later.
+#[test]
+fn nothing_is_published_for_nobody() {
+    let mut relay = machine(&Bounds::default(), 0, 2, None);
+    for now in 0..600 {
+        relay.timeout(now * SECOND / 100);
+        assert!(!relay.may_publish());
+    }
+    relay.timeout(6 * SECOND);
+    let mut count = 0;
+    while relay.may_publish() {
+        count += 1;
+        relay.publish(6 * SECOND, count - 1, count, vec![0; 100_000].into());
+    }
+    assert_eq!(count, (2 << 20) / 100_128 + 1);
+    relay.connect(7 * SECOND, 1, 100);
+    relay.report(
+        7 * SECOND,
+        1,
+        0,
+        Report { coverage: Coverage::up_to(count), ..Report::default() },
+    );
+    relay.report(7 * SECOND, 1, 1, Report::default());
+    assert!(relay.may_publish());
+}
+
+/// How often a relay with a peer and many authors that are away has something to do in ten seconds.
+#[test]
+fn authors_that_are_away_cost_nothing() {
+    let mut relays = [0, 1].map(|own| machine(&Bounds::default(), own, 500, None));
+    let [one, other] = &mut relays;
+    one.connect(0, 1, 100);
+    other.connect(0, 0, 100);
+    let mut steps = 0;
+    for now in (0..10_000).map(|it| it * 1_000) {
+        meet(now, &mut [one, other]);
+        for relay in [&mut *one, &mut *other] {
+            if relay.next_time() <= now {
+                relay.timeout(now);
+                steps += 1;
+            }
+        }
+    }
+    assert!(steps < 20, "{steps}");
 }
 
 #[test]
@@ -276,10 +401,7 @@ fn who_brings_a_part_in_any_order_keeps_nothing_away() {
                 }
             }
             while let Some(frame) = author.frame(now, 0) {
-                match frame {
-                    Frame::Report(of, report) => relay.report(now, 1, of, report),
-                    Frame::Message(it) => drop(take(now, &mut relay, 1, it)),
-                }
+                hand(now, &mut relay, 1, frame);
             }
             relay.timeout(now);
             author.timeout(now);

@@ -303,7 +303,7 @@ impl World {
             }
         }
         if class == "breaks" || (class == "mixed" && self.random.chance(50)) {
-            self.scene.is_strict = false;
+            self.scene.is_strict &= class == "breaks";
             for _ in 0..self.random.between(1, 5) {
                 let (a, b) = edges[self.random.below(edges.len() as u64) as usize];
                 let (time, span) =

@@ -95,7 +95,7 @@ impl World {
                 lost += 1;
                 if self.scene.is_strict || node.rate != FULL {
                     wrong.push(format!("{author}/{stamp} is lost at {lacking}"));
-                } else if !self.is_told(author, lacking) {
+                } else if born > self.nodes[lacking].forgot && !self.is_told(author, lacking) {
                     wrong
                         .push(format!("{author}/{stamp} is lost at {lacking}, and nobody says so"));
                 }

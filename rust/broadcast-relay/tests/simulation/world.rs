@@ -76,6 +76,8 @@ pub enum Kind {
     Turns,
     /// Reports everything, and brings one of ten messages of others.
     Tenth,
+    /// Is not there, as in the twin of a run.
+    Absent,
 }
 
 pub struct Link {
@@ -131,6 +133,8 @@ pub struct Node {
     /// What it has delivered.
     pub seen: HashMap<(usize, u64), u64>,
     pub crashed: Vec<u64>,
+    /// When it lost its journal last.
+    pub forgot: u64,
 }
 
 impl Node {
@@ -147,7 +151,13 @@ impl Node {
             is_blocked: false,
             seen: HashMap::new(),
             crashed: Vec::new(),
+            forgot: 0,
         }
+    }
+
+    /// It is not there.
+    pub fn leave(&mut self) {
+        (self.kind, self.rate) = (Kind::Absent, 0);
     }
 
     pub fn is_honest(&self) -> bool {
@@ -318,7 +328,8 @@ impl World {
     }
 
     pub fn connect(&mut self, one: usize, other: usize) {
-        let is_down = |it: usize| self.nodes[it].machine.is_none();
+        let is_down =
+            |it: usize| self.nodes[it].machine.is_none() || self.nodes[it].kind == Kind::Absent;
         if is_down(one) || is_down(other) || self.links[&(one, other)].is_up {
             return;
         }
@@ -375,6 +386,7 @@ impl World {
         node.crashed.push(self.now);
         if !has_journal {
             node.seen.clear();
+            node.forgot = self.now;
         }
         self.at(self.now + span, Event::Start(number));
     }
