@@ -77,13 +77,13 @@ def build(backends=BACKENDS):
         is_well, said = call([rattle, "check", *given, *checked], cwd=CRATE)
         if not is_well:
             return dict.fromkeys(backends, said[-2000:])
-        toolchain, faults = toolchain_that_keeps(room), {}
+        toolchains, faults = {"llvm": toolchain_that_keeps(room), "rattle": kit() / "toolchain"}, {}
         for backend in backends:
             library = library_of(backend)
             library.parent.mkdir(parents=True, exist_ok=True)
             library.unlink(missing_ok=True)
-            made = ["--crate-checked", room / "checked", "--toolchain", toolchain, "--backend", backend, "-o", library]
-            is_well, said = call([rattle, "build", *given, *made], cwd=CRATE)
+            made = ["--crate-checked", room / "checked", "--toolchain", toolchains[backend]]
+            is_well, said = call([rattle, "build", *given, *made, "--backend", backend, "-o", library], cwd=CRATE)
             faults[backend] = None if is_well else said[-2000:]
             if is_well and backend == "llvm":
                 keep(room, library)
