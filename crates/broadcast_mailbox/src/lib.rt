@@ -4,8 +4,6 @@
 
 mod broadcaster;
 pub mod buffered;
-#[cfg(test)]
-mod tests;
 
 pub use broadcaster::{Broadcaster, Feedback, MailboxError};
 

@@ -63,9 +63,8 @@ impl<T> Inbox<T> {
         Inbox::resumed_after(alloc, mailbox_size, 0)
     }
 
-    // Creates an open, empty inbox after `drawn` requests that were taken, for tests of the last
-    // ticket.
-    pub(crate) fn resumed_after(alloc: Global, mailbox_size: NonZeroUsize, drawn: u64) -> Self
+    // Creates an open, empty inbox after `drawn` requests that were taken.
+    fn resumed_after(alloc: Global, mailbox_size: NonZeroUsize, drawn: u64) -> Self
         ensures { result ≡ mailbox_after (non_zero_usize_get mailbox_size) drawn }
     {
         Inbox {
