@@ -2,8 +2,6 @@
 //!
 //! The feature `registry` turns the adapter on.
 
-#![deny(missing_debug_implementations)]
-
 #[cfg(feature = "registry")]
 mod adapter;
 

@@ -64,7 +64,6 @@
 //! kept, for whom and until when. This crate around it is tested.
 
 #![forbid(unsafe_code)]
-#![deny(missing_debug_implementations)]
 
 mod config;
 mod deliveries;

@@ -69,10 +69,10 @@ impl<M: Message> Waiting<M> {
         let Some(digest) = self.numbers.remove(&number) else { return false };
         if let Entry::Occupied(mut entry) = self.digests.entry(digest) {
             entry.get_mut().responders.remove(&number);
-            if entry.get().responders.is_empty() {
-                if let Some(ticket) = entry.remove().ticket {
-                    cache.cancel(&digest, ticket);
-                }
+            if entry.get().responders.is_empty()
+                && let Some(ticket) = entry.remove().ticket
+            {
+                cache.cancel(&digest, ticket);
             }
         }
         true

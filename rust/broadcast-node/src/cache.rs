@@ -75,19 +75,6 @@ impl<M> Cache<M> {
     /// # Errors
     ///
     /// [`Error::Memory`].
-    ///
-    /// ```
-    /// # use broadcast_node::{Cache, Digest, Key};
-    /// # fn main() -> Result<(), broadcast_node::Error> {
-    /// let (one, other) = (Key::from([1; 32]), Key::from([2; 32]));
-    /// let mut cache = Cache::new(one, 10, 1_000)?;
-    /// cache.update_primary_peers(&[one, other])?;
-    /// let _ = cache.take(&other, &Digest::default(), 5, "hello")?;
-    /// cache.update_primary_peers(&[one])?;
-    /// assert!(!cache.is_primary(&other) && !cache.contains(&Digest::default()));
-    /// # Ok(())
-    /// # }
-    /// ```
     pub fn update_primary_peers(&mut self, keys: &[Key]) -> Result<Evicted<'_, M>, Error> {
         let mut primary = Vec::new();
         primary.try_reserve_exact(keys.len())?;
@@ -275,17 +262,6 @@ impl<M> Cache<M> {
     /// Drops the waiters with these tickets. Returns how many they were.
     ///
     /// It looks at each digest that is awaited. [`Cache::cancel`] drops one waiter without that.
-    ///
-    /// ```
-    /// # use broadcast_node::{Cache, Digest, Key, Subscribed};
-    /// # fn main() -> Result<(), broadcast_node::Error> {
-    /// let mut cache = Cache::<&str>::new(Key::from([1; 32]), 10, 1_000)?;
-    /// if let Subscribed::Waiting(ticket) = cache.subscribe(&Digest::default())? {
-    ///     assert_eq!(cache.cleanup(&[ticket]), 1);
-    /// }
-    /// # Ok(())
-    /// # }
-    /// ```
     pub fn cleanup(&mut self, tickets: &[Ticket]) -> u64 {
         let removed = self.store.cleanup(tickets);
         self.tickets.gone(removed);
@@ -296,20 +272,6 @@ impl<M> Cache<M> {
     ///
     /// It looks at the waiters of this digest alone, which it finds in a time that grows with the logarithm of how
     /// many digests are awaited. A ticket that waits for another digest stays.
-    ///
-    /// ```
-    /// # use broadcast_node::{Cache, Digest, Key, Subscribed};
-    /// # fn main() -> Result<(), broadcast_node::Error> {
-    /// let mut cache = Cache::<&str>::new(Key::from([1; 32]), 10, 1_000)?;
-    /// let digest = Digest::from([7; 32]);
-    /// if let Subscribed::Waiting(ticket) = cache.subscribe(&digest)? {
-    ///     assert!(!cache.cancel(&Digest::from([8; 32]), ticket));
-    ///     assert!(cache.cancel(&digest, ticket));
-    ///     assert!(!cache.cancel(&digest, ticket));
-    /// }
-    /// # Ok(())
-    /// # }
-    /// ```
     pub fn cancel(&mut self, digest: &Digest, ticket: Ticket) -> bool {
         let removed = self.store.cleanup_of(digest, &[ticket]);
         self.tickets.gone(removed);
@@ -317,21 +279,6 @@ impl<M> Cache<M> {
     }
 
     /// Returns how many messages are cached.
-    ///
-    /// ```
-    /// # use broadcast_node::{Cache, Digest, Key};
-    /// # fn main() -> Result<(), broadcast_node::Error> {
-    /// let own = Key::from([1; 32]);
-    /// let mut cache = Cache::new(own, 10, 1_000)?;
-    /// cache.update_primary_peers(&[own])?;
-    /// assert!(cache.is_empty());
-    /// let _ = cache.take_own(&Digest::from([7; 32]), 5, "hello")?;
-    /// let _ = cache.subscribe(&Digest::from([8; 32]))?;
-    /// let _ = cache.subscribe(&Digest::from([8; 32]))?;
-    /// assert_eq!((cache.len(), cache.awaited(), cache.waiting()), (1, 1, 2));
-    /// # Ok(())
-    /// # }
-    /// ```
     pub fn len(&self) -> usize {
         self.store.count().cached
     }

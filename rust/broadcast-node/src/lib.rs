@@ -49,10 +49,6 @@
 //! A program links `libbroadcast_c.a`, which this crate has for some targets. `BROADCAST_C_LIB` names the folder of another
 //! one. Where there is none, the build fails; a documentation is built without it where `DOCS_RS` is set.
 
-#![deny(missing_docs)]
-#![deny(missing_debug_implementations)]
-#![deny(unsafe_code)]
-
 mod bucket;
 mod cache;
 mod coverage;
@@ -62,7 +58,7 @@ mod error;
 mod key;
 mod node;
 mod outbox;
-#[allow(unsafe_code)]
+#[allow(unsafe_code, reason = "it calls the library")]
 mod raw;
 mod slots;
 mod snapshot;

@@ -11,15 +11,16 @@ pub use results::{Broadcast, Message, Received, Recipients};
 pub use wire::Invalid;
 
 use crate::{
-    Cache, Counts, Digest, Error, Evicted, Key, Outcome, Refused, RestoreError, Snapshot,
-    Subscribed, Taken, Ticket,
+    Cache, Digest, Error, Evicted, Key, Outcome, Refused, RestoreError, Snapshot, Subscribed,
+    Taken, Ticket,
 };
 use books::{Books, Counted};
 use std::fmt;
+use std::ops::Deref;
 
 /// A node without input and output: a cache that encodes, decodes and digests messages.
 ///
-/// A message is a list of bytes. It is kept in the payload `B` that it came in, so it is not copied: `B` may be
+/// What a [`Cache`] reports, a node reports too: it derefs to its cache. A message is a list of bytes. It is kept in the payload `B` that it came in, so it is not copied: `B` may be
 /// `Vec<u8>`, `Arc<[u8]>` or `bytes::Bytes`.
 ///
 /// ```
@@ -67,11 +68,6 @@ impl<B: AsRef<[u8]>> Node<B> {
         Ok(Node { cache, limits, books: Books::default() })
     }
 
-    /// Returns the own key.
-    pub fn own(&self) -> &Key {
-        self.cache.own()
-    }
-
     /// Makes `keys` the primary ones, in any order and with repeats. Drops the lists of all others. Returns the payloads
     /// of the messages that are on no list any more.
     ///
@@ -88,16 +84,6 @@ impl<B: AsRef<[u8]>> Node<B> {
     /// Returns the limits.
     pub const fn limits(&self) -> &Limits {
         &self.limits
-    }
-
-    /// Returns the primary keys, in order and without repeats.
-    pub fn primary_peers(&self) -> &[Key] {
-        self.cache.primary_peers()
-    }
-
-    /// Returns whether the key is primary.
-    pub fn is_primary(&self, key: &Key) -> bool {
-        self.cache.is_primary(key)
     }
 
     /// Takes a message under the own key and the SHA-256 of its bytes, and encodes it.
@@ -164,20 +150,6 @@ impl<B: AsRef<[u8]>> Node<B> {
     /// # Errors
     ///
     /// [`Error::Memory`], with the payload, which is not counted.
-    ///
-    /// ```
-    /// use broadcast_node::{Digest, Key, Limits, Node};
-    ///
-    /// # fn main() -> Result<(), broadcast_node::Error> {
-    /// let key = Key::from([1; 32]);
-    /// let mut node = Node::<Vec<u8>>::new(key, Limits::default())?;
-    /// node.update_primary_peers(&[key])?;
-    /// let height = Digest::from([0; 32]);
-    /// let _ = node.payload_as(&key, &height, b"\0\0\0\x05block".to_vec())?;
-    /// assert_eq!(node.get(&height), Some(&b"block"[..]));
-    /// # Ok(())
-    /// # }
-    /// ```
     pub fn payload_as(
         &mut self,
         peer: &Key,
@@ -235,11 +207,6 @@ impl<B: AsRef<[u8]>> Node<B> {
         })
     }
 
-    /// Returns the payloads of the cached messages with their digests, in any order.
-    pub fn iter(&self) -> impl Iterator<Item = (&Digest, &B)> {
-        self.cache.iter()
-    }
-
     /// Returns the bytes of the cached message of the digest.
     pub fn get(&self, digest: &Digest) -> Option<&[u8]> {
         self.get_payload(digest).map(|payload| wire::message_of(payload.as_ref()))
@@ -248,29 +215,6 @@ impl<B: AsRef<[u8]>> Node<B> {
     /// Returns the payload of the cached message of the digest: its encoding, which can be sent as it is.
     pub fn get_payload(&self, digest: &Digest) -> Option<&B> {
         self.cache.get(digest)
-    }
-
-    /// Returns whether a message of the digest is cached.
-    pub fn contains(&self, digest: &Digest) -> bool {
-        self.cache.contains(digest)
-    }
-
-    /// Returns the digests on the list of `peer`, newest first.
-    ///
-    /// # Errors
-    ///
-    /// [`Error::Memory`].
-    pub fn list(&self, peer: &Key) -> Result<Vec<Digest>, Error> {
-        self.cache.list(peer)
-    }
-
-    /// Puts the digests on the list of `peer` into `list`, as [`Cache::list_into`] does.
-    ///
-    /// # Errors
-    ///
-    /// [`Error::Memory`].
-    pub fn list_into(&self, peer: &Key, list: &mut Vec<Digest>) -> Result<(), Error> {
-        self.cache.list_into(peer, list)
     }
 
     /// Drops the waiters with these tickets. Returns how many they were.
@@ -292,41 +236,6 @@ impl<B: AsRef<[u8]>> Node<B> {
     /// Returns the sum over all payloads of keys that were not primary, and of keys that are not any more.
     pub fn other_counters(&self) -> Counters {
         self.books.others()
-    }
-
-    /// Returns the sum of the lengths of the cached payloads, each once.
-    pub fn bytes(&self) -> u64 {
-        self.cache.bytes()
-    }
-
-    /// Returns what the list of `peer` is charged: the sum of the lengths of its payloads.
-    pub fn bytes_of(&self, peer: &Key) -> u64 {
-        self.cache.bytes_of(peer)
-    }
-
-    /// Returns how many messages are cached.
-    pub fn len(&self) -> usize {
-        self.cache.len()
-    }
-
-    /// Returns whether no message is cached. Tickets may wait.
-    pub fn is_empty(&self) -> bool {
-        self.cache.is_empty()
-    }
-
-    /// Returns how many digests are awaited.
-    pub fn awaited(&self) -> usize {
-        self.cache.awaited()
-    }
-
-    /// Returns how many tickets wait.
-    pub fn waiting(&self) -> usize {
-        self.cache.waiting()
-    }
-
-    /// Returns how many messages are cached, how many digests are awaited, and how many tickets wait.
-    pub fn counts(&self) -> Counts {
-        self.cache.counts()
     }
 }
 
@@ -370,6 +279,15 @@ impl<B: AsRef<[u8]>> Node<B> {
         let cache = Cache::restore(own, limits.deque_size, limits.byte_budget, snapshot)?;
         let books = Books::default().for_keys(cache.primary_peers())?;
         Ok(Node { cache, limits, books })
+    }
+}
+
+/// A node is read as its cache is, whose messages are the payloads.
+impl<B> Deref for Node<B> {
+    type Target = Cache<B>;
+
+    fn deref(&self) -> &Cache<B> {
+        &self.cache
     }
 }
 

@@ -70,6 +70,7 @@ pub struct Place {
     pub length: usize,
 }
 
+#[rustfmt::skip] // It would put each parameter on a line.
 unsafe extern "C" {
     pub safe fn broadcast_c_version() -> u32;
     pub safe fn broadcast_counters_count(counters: &mut Counters, what: u32);
@@ -78,121 +79,42 @@ unsafe extern "C" {
     fn broadcast_packet_read(bytes: *const u8, len: usize, max_len: usize, out: &mut Place) -> u32;
     pub safe fn broadcast_packet_head(len: usize, out: &mut [u8; 4]) -> u32;
     fn broadcast_coverage_has(floor: u64, spans: *const Span, len: usize, stamp: u64) -> u32;
-    fn broadcast_coverage_cover(
-        floor: &mut u64,
-        spans: *const Span,
-        len: usize,
-        prev: u64,
-        stamp: u64,
-        out: *mut Span,
-        out_len: usize,
-        needed: &mut usize,
-        gap: &mut Span,
-    ) -> u32;
-    fn broadcast_coverage_end(
-        floor: u64,
-        spans: *const Span,
-        len: usize,
-        at: u64,
-        end: &mut u64,
-    ) -> u32;
-    fn broadcast_coverage_missing(
-        floor: u64,
-        spans: *const Span,
-        len: usize,
-        other_floor: u64,
-        others: *const Span,
-        others_len: usize,
-        above: u64,
-        upto: u64,
-        stamp: &mut u64,
-    ) -> u32;
-    fn broadcast_outbox_next(
-        list: *const Listed,
-        len: usize,
-        floor: u64,
-        spans: *const Span,
-        spans_len: usize,
-        is_held: bool,
-        in_flight: *const Listed,
-        in_flight_len: usize,
-        room: u64,
-        index: &mut usize,
-    ) -> u32;
-    fn broadcast_outbox_lag(
-        list: *const Listed,
-        len: usize,
-        sums: *const u64,
-        sums_len: usize,
-        floor: u64,
-        spans: *const Span,
-        spans_len: usize,
-        bytes: &mut u64,
-    ) -> u32;
+    fn broadcast_coverage_cover(floor: &mut u64, spans: *const Span, len: usize, prev: u64,
+        stamp: u64, out: *mut Span, out_len: usize, needed: &mut usize, gap: &mut Span) -> u32;
+    fn broadcast_coverage_end(floor: u64, spans: *const Span, len: usize, at: u64,
+        end: &mut u64) -> u32;
+    fn broadcast_coverage_missing(floor: u64, spans: *const Span, len: usize, other_floor: u64,
+        others: *const Span, others_len: usize, above: u64, upto: u64, stamp: &mut u64) -> u32;
+    fn broadcast_outbox_next(list: *const Listed, len: usize, floor: u64, spans: *const Span,
+        spans_len: usize, is_held: bool, in_flight: *const Listed, in_flight_len: usize, room: u64,
+        index: &mut usize) -> u32;
+    fn broadcast_outbox_lag(list: *const Listed, len: usize, sums: *const u64, sums_len: usize,
+        floor: u64, spans: *const Span, spans_len: usize, bytes: &mut u64) -> u32;
     pub safe fn broadcast_bucket_level(bucket: &Bucket, now: u64) -> u64;
     pub safe fn broadcast_bucket_charge(bucket: &mut Bucket, now: u64, cost: u64);
     pub safe fn broadcast_bucket_ready(bucket: &Bucket, now: u64, cost: u64, at: &mut u64) -> u32;
-    fn broadcast_store_new(
-        store: &mut StoreHandle,
-        own: &Key,
-        deque_size: usize,
-        byte_budget: u64,
-    ) -> u32;
+    fn broadcast_store_new(store: &mut StoreHandle, own: &Key, deque_size: usize,
+        byte_budget: u64) -> u32;
     fn broadcast_store_free(store: &mut StoreHandle);
     fn broadcast_store_peers(store: &mut StoreHandle, names: *const Key, len: usize) -> u32;
-    fn broadcast_store_take(
-        store: &mut StoreHandle,
-        peer: &Key,
-        digest: &Digest,
-        charge: usize,
-        handle: u64,
-        out: &mut Stored,
-    ) -> u32;
-    fn broadcast_store_receive(
-        store: &mut StoreHandle,
-        peer: &Key,
-        digest: &Digest,
-        charge: usize,
-        handle: u64,
-        counters: &mut Counters,
-        out: &mut Stored,
-    ) -> u32;
-    fn broadcast_store_served(
-        store: &mut StoreHandle,
-        out: *mut Ticket,
-        len: usize,
-        needed: &mut usize,
-    ) -> u32;
-    fn broadcast_store_left(
-        store: &mut StoreHandle,
-        out: *mut u64,
-        len: usize,
-        moved: &mut usize,
-    ) -> u32;
+    fn broadcast_store_take(store: &mut StoreHandle, peer: &Key, digest: &Digest, charge: usize,
+        handle: u64, out: &mut Stored) -> u32;
+    fn broadcast_store_receive(store: &mut StoreHandle, peer: &Key, digest: &Digest, charge: usize,
+        handle: u64, counters: &mut Counters, out: &mut Stored) -> u32;
+    fn broadcast_store_served(store: &mut StoreHandle, out: *mut Ticket, len: usize,
+        needed: &mut usize) -> u32;
+    fn broadcast_store_left(store: &mut StoreHandle, out: *mut u64, len: usize,
+        moved: &mut usize) -> u32;
     fn broadcast_store_get(store: &mut StoreHandle, digest: &Digest, handle: &mut u64) -> u32;
     fn broadcast_store_subscribe(store: &mut StoreHandle, ticket: u64, digest: &Digest) -> u32;
-    fn broadcast_store_cleanup(
-        store: &mut StoreHandle,
-        tickets: *const Ticket,
-        len: usize,
-        removed: &mut u64,
-    ) -> u32;
-    fn broadcast_store_cleanup_of(
-        store: &mut StoreHandle,
-        digest: &Digest,
-        tickets: *const Ticket,
-        len: usize,
-        removed: &mut u64,
-    ) -> u32;
+    fn broadcast_store_cleanup(store: &mut StoreHandle, tickets: *const Ticket, len: usize,
+        removed: &mut u64) -> u32;
+    fn broadcast_store_cleanup_of(store: &mut StoreHandle, digest: &Digest, tickets: *const Ticket,
+        len: usize, removed: &mut u64) -> u32;
     fn broadcast_store_is_primary(store: &mut StoreHandle, peer: &Key, out: &mut bool) -> u32;
     fn broadcast_store_bytes(store: &mut StoreHandle, peer: &Key, out: &mut u64) -> u32;
-    fn broadcast_store_list(
-        store: &mut StoreHandle,
-        peer: &Key,
-        out: *mut Digest,
-        len: usize,
-        needed: &mut usize,
-    ) -> u32;
+    fn broadcast_store_list(store: &mut StoreHandle, peer: &Key, out: *mut Digest, len: usize,
+        needed: &mut usize) -> u32;
     fn broadcast_store_count(store: &mut StoreHandle, out: &mut Counts) -> u32;
 }
 

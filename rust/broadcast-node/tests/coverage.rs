@@ -58,7 +58,8 @@ fn what_is_no_coverage_is_refused_and_changes_nothing() {
 
 #[test]
 fn a_message_without_stamps_closes_no_gap() {
-    let spans: Vec<_> = (1..=Coverage::MOST as u64).map(|it| span((10 * it, 10 * it + 5))).collect();
+    let spans: Vec<_> =
+        (1..=Coverage::MOST as u64).map(|it| span((10 * it, 10 * it + 5))).collect();
     let mut had = Coverage::reported(5, spans).unwrap().unwrap();
     let before = had.clone();
     assert_eq!(had.cover(7, 7), Ok(Span::default()));

@@ -1,6 +1,8 @@
 //! Each allocation is refused in turn, those of the library too: nothing aborts, and a call that fails has
 //! changed nothing.
 
+#![allow(unsafe_code, reason = "an allocator")]
+
 use broadcast_node::{
     Cache, Digest, Error, Key, Limits, Node, Received, Recipients, RestoreError, Subscribed,
 };

@@ -83,7 +83,7 @@ impl Node {
             .mailbox_size(sizes.mailbox)
             .deque_size(sizes.lists)
             .byte_budget(sizes.bytes)
-            .priority(number % 2 == 0)
+            .priority(number.is_multiple_of(2))
             .strategy(gate.clone());
         let (engine, mailbox) = Engine::new(config).unwrap();
         let metrics = engine.metrics();

@@ -104,7 +104,7 @@ mod tests {
     fn blocks_are_aligned_or_refused() {
         for align in [1, 8, 16] {
             let block = rattle_alloc(100, align);
-            assert!(block.ok && block.p.addr() % align == 0);
+            assert!(block.ok && block.p.addr().is_multiple_of(align));
             // SAFETY: the block was just made, and is freed once.
             unsafe {
                 assert!(!rattle_realloc(block.p, 100, 200, 32).ok);
