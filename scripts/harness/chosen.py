@@ -44,16 +44,21 @@ def copy(top, mutants, crates):
         (top / unproved.place(file)).write_text(text)
 
 
+def patience(executable, most):
+    """The seconds after which a run is given up. Without a wrong body it ends, however busy the machine is."""
+    return most if executable == unproved.chosen(executable) else LIMIT
+
+
 def refused_by_tests(executable, _crate, *words):
     meant = [test for test in unproved.tests_of(executable) if not words or any(word in test for word in words)]
     assert meant, f"no test has one of {words} in its name"
-    # Without a wrong body a test ends, however busy the machine is.
-    limit = unproved.LIMIT if executable == unproved.chosen(executable) else LIMIT
+    limit = patience(executable, unproved.LIMIT)
     return any(unproved.fault_of_test(executable, test, limit) for test in meant)
 
 
 def refused_by_scenarios(executable, *names):
-    return any(fault for path in scenarios.stored(names) for fault in scenarios.faults(executable, path))
+    limit = patience(executable, scenarios.LIMIT)
+    return any(fault for path in scenarios.stored(names) for fault in scenarios.faults(executable, path, limit))
 
 
 def refused_by_stored(executable, program, *names):

@@ -21,15 +21,15 @@ def stored(names=()):
     return found
 
 
-def tell(executable, text):
+def tell(executable, text, limit=LIMIT):
     """What the built engine in Rattle tells of scenarios: the same text, with the outcome behind each sentence."""
-    ran = subprocess.run([executable], input=text, capture_output=True, text=True, timeout=LIMIT)
+    ran = subprocess.run([executable], input=text, capture_output=True, text=True, timeout=limit)
     return ran.stdout + (f"\nended with {ran.returncode}: {ran.stderr[-2000:]}\n" if ran.returncode else "")
 
 
-def faults(executable, path):
+def faults(executable, path, limit=LIMIT):
     """Yields, of each scenario of a file, what is told otherwise than is written there, or `None`."""
-    for fault in told_otherwise(path.read_text(), tell(executable, path.read_text())):
+    for fault in told_otherwise(path.read_text(), tell(executable, path.read_text(), limit)):
         yield f"{path.relative_to(TOP)}: {fault}" if fault else None
 
 
