@@ -464,6 +464,22 @@ fn who_does_not_list_an_author_is_not_waited_for() {
     assert!(!relay.log(2).is_held);
 }
 
+/// A peer whose connection broke counts as one that still has what it had, until it was waited for long enough. What it lacks then is
+/// counted.
+#[test]
+fn who_loses_its_connection_is_waited_for() {
+    let mut relay = machine(&fast(), 0, 3, None);
+    relay.connect(0, 1, 100);
+    relay.report(0, 1, 2, Report::default());
+    relay.disconnect(1, 1);
+    (1..4).for_each(|it| fill(it, &mut relay));
+    assert!(relay.log(2).is_held && relay.left_behind(1) == 0);
+    (1..800).for_each(|it| relay.timeout(it * SECOND / 100));
+    assert!(!relay.log(2).is_held && relay.is_stalled(8 * SECOND, 1));
+    (1..4).for_each(|it| fill(8 * SECOND + it, &mut relay));
+    assert!(relay.left_behind(1) > 0);
+}
+
 /// A peer that reports nothing, and connects again and again, holds an author back once, and then a sixteenth of the time.
 #[test]
 fn who_reports_nothing_is_not_waited_for_again_and_again() {
