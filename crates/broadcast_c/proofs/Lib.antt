@@ -1,8 +1,10 @@
 pub mod Following
 pub mod Leaving
+pub mod LogBox
 pub mod Moving
 pub mod Overlaying
 pub mod Reading
+pub mod Reporting
 pub mod Serving
 pub mod StoreBox
 pub mod Values
