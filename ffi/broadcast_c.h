@@ -1,6 +1,6 @@
 /* The functions of libbroadcast_c.a: a store, which caches messages that the caller keeps; the wire
- * format of a message; coverages, which say what a relay has had; what a relay sends; buckets, which
- * say what a rate allows; counters; and SHA-256.
+ * format of a message; the log of an author, which a relay keeps; coverages, which say what a relay has
+ * had; what a relay sends; buckets, which say what a rate allows; counters; and SHA-256.
  *
  * `make install PREFIX=..` installs the library, and its file of pkg-config says how a program is
  * linked. Without that compile ffi/heap.c with the program, by which the library allocates, and name
@@ -8,12 +8,12 @@
  * from 2009 on).
  *
  * Nothing checks a call from C. A caller makes sure of this:
- *  - A `broadcast_store` is all zeros before its first call, and is read and written by these
- *    functions only. It may be moved, and is never copied: two copies free twice.
+ *  - A `broadcast_store` or `broadcast_log` is all zeros before its first call, and is read and written
+ *    by these functions only. It may be moved, and is never copied: two copies free twice.
  *  - No pointer is NULL, except one whose count is 0. What a pointer to const leads to does not
  *    change during the call. What any other pointer leads to is initialised, is used by nothing else
  *    during the call, and overlaps nothing. A `bool` is 0 or 1.
- *  - There is one call at a time for each store. Calls may come from several threads.
+ *  - There is one call at a time for each store and each log. Calls may come from several threads.
  *  - There is no call from a signal handler, or in the forked child of a process with threads.
  *
  * A length `x_len` is the number of elements of the array `x`: of bytes only if `x` points to bytes,
@@ -38,13 +38,13 @@ extern "C" {
  * `broadcast_c_version()` once. */
 #define BROADCAST_VERSION 9
 
-/* The status that a call returns. After any other than OK and WAITS the store is as it was. After
+/* The status that a call returns. After any other than OK and WAITS the store or log is as it was. After
  * EMPTY, MEMORY, NONE, TOO_LONG and NO_COVERAGE so is each variable that the call could have set, and
- * after SHORT of `broadcast_coverage_cover` each but `needed`. */
+ * after SHORT of `broadcast_coverage_cover` and of the functions of a log each but `needed`. */
 enum {
     BROADCAST_OK = 0,
     BROADCAST_MEMORY = 1,         /* an allocation failed */
-    BROADCAST_EMPTY = 2,          /* there is no store: it was not made, or was freed */
+    BROADCAST_EMPTY = 2,          /* there is no store or log: it was not made, or was freed */
     BROADCAST_NONE = 3,           /* no message of the digest is cached, the stamp was not had, there is no
                                    * stamp or message of the kind, or tokens are never there */
     BROADCAST_SHORT = 4,          /* the buffer is too short */
@@ -64,6 +64,16 @@ enum {
     BROADCAST_OVERSIZE = 3    /* it is charged more than the byte budget; no list changed */
 };
 
+/* What becomes of a message that arrives at a log. */
+enum {
+    BROADCAST_LISTED = 0,       /* it is new, and on the list */
+    BROADCAST_PASSED = 1,       /* it is new, but has no room beside the later ones: it and all earlier
+                                 * ones are up to the floor now */
+    BROADCAST_REFUSED = 2,      /* its stamp is up to the floor or listed, or no later than `prev` */
+    BROADCAST_ABOVE_BUDGET = 3, /* it is charged more than the budget by itself */
+    BROADCAST_UNTIMELY = 4      /* its stamp is later than `latest` */
+};
+
 /* What is counted beside the outcomes. */
 enum {
     BROADCAST_INVALID = 4 /* a payload that does not decode */
@@ -73,6 +83,11 @@ typedef struct {
     void *at;
     bool full;
 } broadcast_store;
+
+typedef struct {
+    void *at;
+    bool full;
+} broadcast_log;
 
 /* A key of up to 64 bytes: its bytes, then zeros, and its length in the last byte. */
 typedef struct {
@@ -119,6 +134,14 @@ typedef struct {
     uint64_t stamp; /* its own stamp */
     uint64_t bytes; /* its size */
 } broadcast_listed;
+
+/* A message of an author, as a log keeps it. A log charges it `bytes` and 64 more. */
+typedef struct {
+    uint64_t prev;   /* the stamp of the author's message before it */
+    uint64_t stamp;  /* its own stamp */
+    uint64_t bytes;  /* its size */
+    uint64_t handle; /* the caller's name for it */
+} broadcast_message;
 
 /* What a bucket lacks to be full, counted in billionths of a token, is `high` times 2 to the 64th, and
  * `low`. All values of the fields are buckets: {rate, burst, now, 0, 0} is a full one. */
@@ -252,6 +275,52 @@ uint32_t broadcast_outbox_next(const broadcast_listed *list, size_t list_len, ui
 uint32_t broadcast_outbox_lag(const broadcast_listed *list, size_t list_len, const uint64_t *sums,
                               size_t sums_len, uint64_t floor, const broadcast_span *spans,
                               size_t spans_len, uint64_t *bytes);
+
+/* ---- The log of an author: the newest of its messages that fit a budget of bytes, in whatever order,
+ * how often and from whomever they come. Each message is charged its size and 64 bytes more. Up to the
+ * floor nothing is listed any more, and above it all that came and fits together with all later ones.
+ * The relays of a network need one budget. A call returns EMPTY if there is no log. `left_len` counts
+ * handles, `in_flight_len` stamps, `spans_len` and `out_len` spans. ---- */
+
+/* Makes the log of an author of whom nothing came: OK or MEMORY. Frees the log that was there. `budget`
+ * is in bytes. */
+uint32_t broadcast_log_new(broadcast_log *log, uint64_t budget);
+/* Frees the log. It is empty then, and freeing it again does nothing. */
+void broadcast_log_free(broadcast_log *log);
+/* Takes a message that arrives, if its stamp is no later than `latest`: OK, SHORT, MEMORY or EMPTY. Sets
+ * `arrived` to what becomes of the message, copies the handles of those that leave the list for it to
+ * the front of `left`, the earliest first and its own among them if it is PASSED, and sets `needed` to
+ * their number. If that is more than `left_len`, the status is SHORT, the log is as it was, and only
+ * `needed` is set. */
+uint32_t broadcast_log_arrive(broadcast_log *log, const broadcast_message *message, uint64_t latest,
+                              uint64_t *left, size_t left_len, size_t *needed, uint32_t *arrived);
+/* Reports whether the stamp is up to the floor, or listed, so that what comes of it is refused: OK or
+ * NONE. */
+uint32_t broadcast_log_has(broadcast_log *log, uint64_t stamp);
+/* Sets `out` to the listed message at the index, from 0 on in order of stamps: OK or NONE. */
+uint32_t broadcast_log_get(broadcast_log *log, size_t index, broadcast_message *out);
+/* Sets `out` to the listed message of the stamp: OK or NONE. */
+uint32_t broadcast_log_find(broadcast_log *log, uint64_t stamp, broadcast_message *out);
+/* Sets `floor` to that of the log, `len` to the number of listed messages, and `bytes` to what they are
+ * charged, at most the budget. */
+uint32_t broadcast_log_count(broadcast_log *log, uint64_t *floor, size_t *len, uint64_t *bytes);
+/* Sets `floor`, and copies the spans above it to `out`: the coverage that is reported to a peer. It has
+ * only what the log's floor and its messages, each from `prev` on, cover, and of the messages exactly
+ * those up to its top. Room for 63 spans is enough: OK or SHORT. After SHORT only `needed` is set. */
+uint32_t broadcast_log_report(broadcast_log *log, uint64_t *floor, broadcast_span *out, size_t out_len,
+                              size_t *needed);
+/* Sets `out` to the message that a peer which reported this coverage is sent next, if the bytes `flying`
+ * are less than `room`: the earliest that the peer lacks and whose stamp is not in flight. OK, NONE or
+ * NO_COVERAGE. Up to the top of the coverage, the peer lacks what the coverage has not; above it, what
+ * is later than `sent`: the greatest stamp above the top of a report that was sent on this connection,
+ * at first 0. The stamps in flight may come in any order; if they rise, the call is fast. */
+uint32_t broadcast_log_next(broadcast_log *log, uint64_t floor, const broadcast_span *spans,
+                            size_t spans_len, uint64_t sent, const uint64_t *in_flight,
+                            size_t in_flight_len, uint64_t flying, uint64_t room,
+                            broadcast_message *out);
+/* Sets `bytes` to what the listed messages are charged that the coverage has not: OK or NO_COVERAGE. */
+uint32_t broadcast_log_lag(broadcast_log *log, uint64_t floor, const broadcast_span *spans,
+                           size_t spans_len, uint64_t *bytes);
 
 /* ---- Buckets: what a rate allows. Times are nanoseconds of one clock; one that is before `at` counts
  * as `at`. A bucket may be overdrawn: what it gains pays the debt first. Whoever charges only while the

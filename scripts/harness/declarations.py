@@ -7,13 +7,13 @@ from harness.common import TOP
 
 EXPORTS = TOP / "crates" / "broadcast_c" / "src"
 CORE = TOP / "crates" / "broadcast_core" / "src"
-GOSSIP = [TOP / "crates" / "gossip" / "src" / it for it in ("span.rt", "outbox.rt", "bucket.rt")]
+GOSSIP = [TOP / "crates" / "gossip" / "src" / it for it in ("span.rt", "message.rt", "outbox.rt", "bucket.rt")]
 HEADER = TOP / "ffi" / "broadcast_c.h"
 RUST = TOP / "rust" / "broadcast-node" / "src"
 
 # What the structs are called in C. In Rust they have the names of Rattle.
 STRUCTS = {
-    "StoreHandle": "broadcast_store", "Name": "broadcast_name", "Stored": "broadcast_stored",
+    "StoreHandle": "broadcast_store", "LogHandle": "broadcast_log", "Message": "broadcast_message", "Name": "broadcast_name", "Stored": "broadcast_stored",
     "Counts": "broadcast_counts", "Counters": "broadcast_counters", "Place": "broadcast_place",
     "Span": "broadcast_span", "Listed": "broadcast_listed", "Bucket": "broadcast_bucket",
 }
@@ -55,7 +55,7 @@ class Texts:
             it = re.search(BYTES_STRUCT % name, (CORE / file).read_text())[1]
             exports = re.sub(rf"&(mut )?{name}\b", rf"&\1{it}", exports)
             exports = re.sub(rf"&(mut )?\[{name}\]", rf"&\1[{it}]", exports)
-        names = ("raw.rs", "key.rs", "tickets.rs", "coverage.rs", "outbox.rs", "bucket.rs", "node/books.rs")
+        names = ("raw.rs", "key.rs", "tickets.rs", "coverage.rs", "log.rs", "outbox.rs", "bucket.rs", "node/books.rs")
         rust = "\n".join((RUST / it).read_text() for it in names)
         return Texts(exports, HEADER.read_text(), rust)
 

@@ -10,7 +10,7 @@ WRAPPED = "-Wl,--wrap=malloc,--wrap=realloc,--wrap=free"
 # With what each program is linked beside the library.
 PROGRAMS = {
     "hello": ["heap.c"], "packet": ["heap.c"], "coverage": ["heap.c"], "outbox": ["heap.c"], "bucket": ["heap.c"],
-    "store": ["heap.c"], "refused": ["heap.c", WRAPPED], "blocks": [],
+    "store": ["heap.c"], "log": ["heap.c"], "refused": ["heap.c", WRAPPED], "blocks": [],
 }
 STORY = """\
 Alice broadcasts "hello", whose digest is 2cf24dba5fb0a30e26e83b2ac5b9e29e1b161e5c1fa7425e73043362938b9824

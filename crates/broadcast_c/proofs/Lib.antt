@@ -1,9 +1,11 @@
 pub mod Following
 pub mod Lawful
 pub mod Leaving
+pub mod LogBox
 pub mod Moving
 pub mod Overlaying
 pub mod Reading
+pub mod Reporting
 pub mod Serving
 pub mod Sizes
 pub mod StoreBox

@@ -5,6 +5,7 @@ mod buffer;
 mod counters;
 mod coverage;
 mod digest;
+mod log;
 mod outbox;
 mod packet;
 mod store;

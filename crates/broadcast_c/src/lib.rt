@@ -11,6 +11,7 @@ mod counters;
 mod exports;
 mod handle;
 mod laws;
+mod log_handle;
 mod parts;
 mod store;
 

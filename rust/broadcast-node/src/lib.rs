@@ -8,6 +8,7 @@
 //!
 //! - A [`Cache`] has messages of any type.
 //! - A [`Node`] has messages of bytes. It encodes, decodes and digests them, and counts what its peers send.
+//! - A [`log::AuthorLog`] keeps the newest messages of an author, for a relay.
 //! - A [`Coverage`] says which stamps of an author a relay has had.
 //! - A [`Bucket`] says what a rate allows.
 //!
@@ -56,6 +57,7 @@ mod coverage;
 mod de;
 mod error;
 mod key;
+pub mod log;
 mod node;
 mod outbox;
 #[allow(unsafe_code, reason = "it calls the library")]

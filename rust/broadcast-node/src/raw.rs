@@ -3,13 +3,16 @@
 
 mod coverage;
 mod heap;
+mod log;
 mod outbox;
 mod store;
 
 pub use coverage::{coverage_cover, coverage_end, coverage_has, coverage_missing};
+pub use log::OwnedLog;
 pub use outbox::{outbox_lag, outbox_next};
 pub use store::Store;
 
+use crate::log::Message;
 use crate::{Bucket, Counters, Digest, Error, Invalid, Key, Listed, Outcome, Span, Ticket};
 use std::ffi::c_void;
 use std::ops::Range;
@@ -33,6 +36,12 @@ pub const INELIGIBLE: u32 = 2;
 pub const OVERSIZE: u32 = 3;
 pub const INVALID: u32 = 4;
 
+pub const LISTED: u32 = 0;
+pub const PASSED: u32 = 1;
+pub const REFUSED: u32 = 2;
+pub const ABOVE_BUDGET: u32 = 3;
+pub const UNTIMELY: u32 = 4;
+
 /// The handle of a store. It owns what `at` leads to if it is `full`, and nothing else.
 #[repr(C)]
 pub struct StoreHandle {
@@ -42,6 +51,17 @@ pub struct StoreHandle {
 
 impl StoreHandle {
     const EMPTY: StoreHandle = StoreHandle { at: null_mut(), full: false };
+}
+
+/// The handle of a log. It owns what `at` leads to if it is `full`, and nothing else.
+#[repr(C)]
+pub struct LogHandle {
+    at: *mut c_void,
+    full: bool,
+}
+
+impl LogHandle {
+    const EMPTY: LogHandle = LogHandle { at: null_mut(), full: false };
 }
 
 /// What became of a message.
@@ -90,6 +110,22 @@ unsafe extern "C" {
         index: &mut usize) -> u32;
     fn broadcast_outbox_lag(list: *const Listed, len: usize, sums: *const u64, sums_len: usize,
         floor: u64, spans: *const Span, spans_len: usize, bytes: &mut u64) -> u32;
+    fn broadcast_log_new(log: &mut LogHandle, budget: u64) -> u32;
+    fn broadcast_log_free(log: &mut LogHandle);
+    fn broadcast_log_arrive(log: &mut LogHandle, message: &Message, latest: u64, left: *mut u64,
+        left_len: usize, needed: &mut usize, arrived: &mut u32) -> u32;
+    fn broadcast_log_has(log: &mut LogHandle, stamp: u64) -> u32;
+    fn broadcast_log_get(log: &mut LogHandle, index: usize, out: &mut Message) -> u32;
+    fn broadcast_log_find(log: &mut LogHandle, stamp: u64, out: &mut Message) -> u32;
+    fn broadcast_log_count(log: &mut LogHandle, floor: &mut u64, len: &mut usize,
+        bytes: &mut u64) -> u32;
+    fn broadcast_log_report(log: &mut LogHandle, floor: &mut u64, out: *mut Span, out_len: usize,
+        needed: &mut usize) -> u32;
+    fn broadcast_log_next(log: &mut LogHandle, floor: u64, spans: *const Span, spans_len: usize,
+        sent: u64, in_flight: *const u64, in_flight_len: usize, flying: u64, room: u64,
+        out: &mut Message) -> u32;
+    fn broadcast_log_lag(log: &mut LogHandle, floor: u64, spans: *const Span, spans_len: usize,
+        bytes: &mut u64) -> u32;
     pub safe fn broadcast_bucket_level(bucket: &Bucket, now: u64) -> u64;
     pub safe fn broadcast_bucket_charge(bucket: &mut Bucket, now: u64, cost: u64);
     pub safe fn broadcast_bucket_ready(bucket: &Bucket, now: u64, cost: u64, at: &mut u64) -> u32;
@@ -131,7 +167,7 @@ pub fn is_usable() -> Result<(), Error> {
 }
 
 /// Returns the error of a status that is not one of those that the call expects.
-const fn error(status: u32) -> Error {
+pub const fn error(status: u32) -> Error {
     match status {
         MEMORY => Error::Memory,
         other => Error::Status(other),
