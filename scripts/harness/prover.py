@@ -1,8 +1,8 @@
 """Wrong bodies that the prover must refuse: those of a crate in one check, over the libraries that are built below it.
 
-Where several change one function, the later ones change copies of it that have another name; methods of a trait can have
-none, so theirs wait for another check. A mutant is refused if its function is not proved for a goal of its contract: a clause, or what it returns. It is not enough that the function calls one that is not
-proved, that a loop's invariant or a call's condition is not kept, or that a lemma or a name that a proof cites is gone.
+Where several change one function, the later ones wait for another check. A mutant is refused if its function is not
+proved for a goal of its own: not only since it calls one that is not proved, and not only since its proof cites a name
+that is gone.
 """
 
 import re
@@ -18,11 +18,8 @@ FN = re.compile(r"( *)(?:pub(?:\(\w+\))? )?(?:(?:unsafe|const|final|extern \"C\"
 IMPL = re.compile(r"impl\b")
 # What the prover says of a proof whose names are gone, or which it does not read, which shows nothing of a contract.
 LOST = re.compile(r"has no field|is not in scope|has no `|was not admitted|rattle does not read")
-# A goal that a clause of the function, or of its type, makes.
-OF_CONTRACT = re.compile(r"returns\b|.*-clause-")
-# A declaration of a proof; that of an answer names the goal.
-DECLARED = re.compile(r"(?:pub )?(?:abbrev )?([\w+-]+) :(.*)")
-# Of a note on a goal that nothing proves.
+# The goal of an error in a proof, and of a note on one that nothing proves.
+GOAL = re.compile(r"error:? *`?([\w+-]*)")
 OPEN = re.compile(r"^note: .*it is not proved that .*\(`([\w+-]+)`\)$", re.M)
 # What stands for no function's body.
 OUTSIDE = re.compile(r"\s*(///|//!|use |ghost use |#\[|(pub )?fn )")
@@ -62,25 +59,15 @@ def module_of(file, owner=None):
     return [it for it in Path(file).with_suffix("").parts[3:] if it not in ("lib", "main")]
 
 
-def place_of(text, old):
-    """The lines of a source, the first line of the function in which this text stands, and that of its `impl`, if any."""
-    lines, place = text.split("\n"), text.count("\n", 0, text.index(old))
-    at = max(i for i in range(place + 1) if FN.match(lines[i]))
-    return lines, at, max(i for i in range(at) if IMPL.match(lines[i])) if FN.match(lines[at])[1] else None
-
-
-def header_of(lines, start, at):
-    """What an `impl` says before its items."""
-    return " ".join(lines[start:at]).partition(" {")[0].partition(" where ")[0]
-
-
 def function_at(file, text, old):
     """The name of the function in which this text stands, below its crate, as the prover has it."""
-    lines, at, start = place_of(text, old)
-    name = FN.match(lines[at])[2]
-    if start is None:
+    lines, place = text.split("\n"), text.count("\n", 0, text.index(old))
+    at = max(i for i in range(place + 1) if FN.match(lines[i]))
+    indent, name = FN.match(lines[at]).groups()
+    if not indent:
         return "::".join([*module_of(file), name])
-    owner, named = owner_of(header_of(lines, start, at))
+    start = max(i for i in range(at) if IMPL.match(lines[i]))
+    owner, named = owner_of(" ".join(lines[start:at]).partition(" {")[0].partition(" where ")[0])
     return "::".join([*module_of(file, owner), named, name])
 
 
@@ -90,115 +77,60 @@ def functions_of(mutant):
     return {function_at(file, texts[file], old) for file, old, _ in mutant.changes if not OUTSIDE.match(old)}
 
 
-def may_be_copied(mutant, changed):
-    """Whether the mutant changes one function alone, which is no method of a trait."""
-    if len(changed) > 1 or any(OUTSIDE.match(old) for _, old, _ in mutant.changes):
-        return False
-    file, old, _ = mutant.changes[0]
-    lines, at, start = place_of((TOP / file).read_text(), old)
-    return start is None or " for " not in header_of(lines, start, at)
-
-
 def checks_of(mutants):
-    """The mutants in as few checks as may be, each a list of mutants with the functions that they change, and which copy
-    of these, counted from 0, which is the function itself."""
+    """The mutants in as few checks as may be, each a list of mutants with the functions that they change."""
     checks = []
     for it in mutants:
         changed = functions_of(it)
-        counts = [sum(not changed.isdisjoint(names) for _, names, _ in check) for check in checks]
-        at = 0 if counts and may_be_copied(it, changed) else next((i for i, number in enumerate(counts) if not number), len(checks))
-        if at == len(checks):
-            checks.append([])
-            counts.append(0)
-        checks[at].append((it, changed, counts[at]))
+        of_others = ([name for _, names in check for name in names] for check in checks)
+        free = next((check for check, names in zip(checks, of_others) if changed.isdisjoint(names)), None)
+        if free is None:
+            checks.append(free := [])
+        free.append((it, changed))
     return checks
-
-
-def in_copy(name, number):
-    """The name of this copy of a function."""
-    return f"{name}_{number}" if number else name
-
-
-def plant(room, mutant, names, number):
-    """Puts a mutant into a copy of its crate: into its functions, or into another copy of its only one."""
-    if not number:
-        for file, old, new in mutant.changes:
-            path = Path(room, *Path(file).parts[2:])
-            path.write_text(path.read_text().replace(old, new, 1))
-        return
-    (name,), file = names, mutant.changes[0][0]
-    lines, at, _ = place_of((TOP / file).read_text(), mutant.changes[0][1])
-    indent, own = FN.match(lines[at]).groups()
-    end = lines.index(indent + "}", at)
-    function = copied = "\n".join(lines[at : end + 1])
-    for _, old, new in mutant.changes:
-        copied = copied.replace(old, new, 1)
-    copied = copied.replace(f"fn {own}", f"fn {in_copy(own, number)}", 1)
-    path = Path(room, *Path(file).parts[2:])
-    path.write_text(path.read_text().replace(function, f"{function}\n\n{copied}", 1))
-    proofs = Path(room, "proofs", *name.split("::"))
-    if proofs.is_dir():
-        shutil.copytree(proofs, proofs.with_name(in_copy(own, number)))
-        for it in proofs.with_name(in_copy(own, number)).glob("*.antt"):
-            it.write_text(re.sub(rf"\.{own}\.(Goals|Given)\b", rf".{in_copy(own, number)}.\1", it.read_text()))
 
 
 def check(crate, changed):
     """Checks a copy of a crate with these mutants, of which it checks the functions. Returns what the prover says."""
     command = [kit() / "bin" / "rattle", "check", *words(crate), "--jobs", "1"]
     command += ["--logic-built", kit() / "logic_built"]
-    command += [word for _, names, number in changed for name in names for word in ("--only", in_copy(name, number))]
+    command += [word for _, names in changed for name in names for word in ("--only", name)]
     with tempfile.TemporaryDirectory(prefix="mutants-") as room:
         for part in PARTS:
             if (TOP / "crates" / crate / part).is_dir():
                 shutil.copytree(TOP / "crates" / crate / part, Path(room, part))
-        # The copies first, while what they are copies of is as it was.
-        for it in sorted(changed, key=lambda it: -it[2]):
-            plant(room, *it)
+        for mutant, _ in changed:
+            for file, old, new in mutant.changes:
+                path = Path(room, *Path(file).parts[2:])
+                path.write_text(path.read_text().replace(old, new, 1))
         return call(command, cwd=room)[1]
 
 
-def answered(file, number):
-    """The goal that the proof at this line answers, or `None` in a lemma."""
-    lines = file.read_text().split("\n")
-    for at in range(min(number, len(lines)) - 1, -1, -1):
-        if found := DECLARED.match(lines[at]):
-            said = found[2] or lines[at + 1]
-            return found[1] if said.strip().startswith("goal.") else None
-    return None
-
-
-def refusal(crate, function, number, said):
-    """Whether the prover refuses this copy of a function by goals of its contract, and its name with those goals, or why
-    not."""
-    name = in_copy(function, number)
+def refusal(crate, name, said):
+    """Whether the prover refuses the function by goals of its own, and its name with those goals, or why not."""
     line = re.search(rf"^fn {re.escape(crate)}::{re.escape(name)}: (.*)$", said, re.M)
     if not line:
         return False, f"{name} was not checked"
     if line[1].startswith("proved"):
         return False, f"{name} is proved"
-    folder = f"./proofs/{name.replace('::', '/')}/"
+    proof = re.escape(f"./proofs/{name.replace('::', '/')}/")
     # The reason often stands on the lines below the first.
-    errors = re.findall(rf"^({re.escape(folder)}\w+\.antt):(\d+)[^\n]*: error((?:.*)(?:\n[ \t].*)*)", said, re.M)
-    own = TOP / "crates" / crate / "proofs" / Path(*function.split("::"))
-    wrong = [(answered(own / Path(file).name, int(at)), bool(LOST.search(why))) for file, at, why in errors]
+    errors = re.findall(rf"^{proof}[^\n]*: error.*(?:\n[ \t].*)*", said, re.M)
     goals = re.findall(r"`([\w+-]+)`", line[1].partition("; it calls")[0].partition("did not prove")[2])
-    goals += [goal for goal, is_lost in wrong if goal and not is_lost]
-    # Where a lemma is wrong or has lost a name, a goal may stand open for that alone.
-    if all(goal and not is_lost for goal, is_lost in wrong):
+    goals += [GOAL.search(it)[1] for it in errors if not LOST.search(it)]
+    # Where a proof has lost a name, a goal may stand open for that alone.
+    if not any(LOST.search(it) for it in errors):
         goals += OPEN.findall(said[:line.start()].rpartition("\nfn ")[2])
-    kept = [it for it in dict.fromkeys(goals) if OF_CONTRACT.match(it)]
-    if kept:
-        return True, ", ".join([name, *kept])
-    others = ", ".join(dict.fromkeys(goals)) or ("what its proof cites" if errors else "what it calls")
-    return False, f"{name} is refused only for {others}"
+    if goals:
+        return True, ", ".join(dict.fromkeys([name, *goals]))
+    return False, f"{name} is refused only {'for a name that its proof cites' if errors else 'for what it calls'}"
 
 
 def tried(crate, mutants):
     """Tries the mutants of a crate. Yields for each whether it is refused, what that shows, and what the prover said."""
     for changed in checks_of(mutants):
         said = check(crate, changed)
-        for mutant, names, number in changed:
-            refusals = [refusal(crate, name, number, said) for name in names]
+        for mutant, names in changed:
+            refusals = [refusal(crate, name, said) for name in names]
             telling = [shown for is_refused, shown in refusals if is_refused]
             yield mutant, bool(telling), "; ".join(telling or (shown for _, shown in refusals)), said
