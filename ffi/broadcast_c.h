@@ -11,8 +11,9 @@
  *  - A `broadcast_store` or `broadcast_log` is all zeros before its first call, and is read and written
  *    by these functions only. It may be moved, and is never copied: two copies free twice.
  *  - No pointer is NULL, except one whose count is 0. What a pointer to const leads to does not
- *    change during the call. What any other pointer leads to is initialised, is used by nothing else
- *    during the call, and overlaps nothing. A `bool` is 0 or 1.
+ *    change during the call. What any other pointer leads to is initialised (a buffer `out` need not
+ *    be: no function reads one), is used by nothing else during the call, and overlaps nothing. A
+ *    `bool` is 0 or 1.
  *  - There is one call at a time for each store and each log. Calls may come from several threads.
  *  - There is no call from a signal handler, or in the forked child of a process with threads.
  *
