@@ -12,8 +12,6 @@ pub mod log;
 pub mod message;
 pub mod outbox;
 pub mod span;
-#[cfg(test)]
-mod tests;
 
 pub use bucket::{Bucket, Call, charge_all};
 pub use coverage::Coverage;
