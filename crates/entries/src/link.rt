@@ -1,15 +1,15 @@
 //! A link to a place.
-ghost use Rattle.std.specs.Prelude.{◌≡◌, ◌+◌, ◌^◌, ◌<◌, ℕ, None, Some};
+ghost use Rattle.std.specs.Prelude.{◌≡◌, ◌+◌, ◌^◌, ◌<◌, ℕ, None, Some, MatchBool, ⊤};
 
 use std::marker::Model;
 
-/// The word of a link that leads nowhere. No vector has that many places.
-const NOWHERE: usize = usize::MAX;
+/// The word of a link that leads nowhere.
+const NOWHERE: u32 = u32::MAX;
 
-/// The place that a link leads to, or none, in one word.
+/// The place that a link leads to, or none, in 32 bits.
 #[derive(Clone, Copy)]
 pub struct Link {
-    at: usize,
+    at: u32,
 }
 
 impl Model for Link {
@@ -33,10 +33,17 @@ impl Link {
 
     /// Creates a link to a place.
     pub fn to(place: usize) -> Self
-        requires { place + 1 < 2 ^ 64 }
+        requires { place + 1 < 2 ^ 32 }
         ensures { result ≡ Some place }
     {
-        Link { at: place }
+        Link { at: place as u32 }
+    }
+
+    /// Returns whether a link can lead to the place.
+    pub fn reaches(place: usize) -> bool
+        ensures { MatchBool result (place + 1 < 2 ^ 32) ⊤ }
+    {
+        place < NOWHERE as usize
     }
 
     /// Returns the place that the link leads to.
@@ -46,7 +53,7 @@ impl Link {
         if self.at == NOWHERE {
             None
         } else {
-            Some(self.at)
+            Some(self.at as usize)
         }
     }
 }

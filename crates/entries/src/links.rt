@@ -68,7 +68,7 @@ pub fn unlink(places: &mut Places, chain: &mut Chain, place: usize)
 pub fn link_front(places: &mut Places, chain: &mut Chain, place: usize, digest: Charged<usize>)
     requires free { Admits (get places.old) chain.old place }
     requires fits { chain.old.len + 1 < 2 ^ 64 }
-    requires word { place + 1 < 2 ^ 64 }
+    requires word { place + 1 < 2 ^ 32 }
     ensures linked { Links (get places.old) (get places.new) chain.old chain.new place digest }
     ensures bytes { chain.new.bytes ≡ chain.old.bytes }
 {

@@ -7,7 +7,7 @@ use Rattle.entries.proofs.links.unlink.Goals as goal
 pub index-entry-requires : goal.index-entry-requires
 index-entry-requires c =
     let on = c.requires in
-    let at = (IsRun-split on.mine _ _ on.front _ _ on.linked.run).1.0 in
+    let at = (IsRun-split _ _ on.front _ _ on.linked.run).1.0 in
     is_there (get c.args.places.now) c.args.place at.entry at.there
 
 pub set_older-requires : goal.set_older-requires
