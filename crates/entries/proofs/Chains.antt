@@ -160,7 +160,7 @@ module _ {D : Type 0} where
   pub record Stands (h : ℕ → Option (Entry D)) (place : ℕ) : Type 0 where
     pub entry : Entry D
     pub there : h place ≡ Some entry
-    pub fits : place + 1 < 2 ^ 32
+    pub fits : place + 2 < 2 ^ 32
 
   pub on_there : (h : ℕ → Option (Entry D)) (chain : Chain) (place : ℕ) → IsOn h chain place → Stands h place
   on_there h chain place on =

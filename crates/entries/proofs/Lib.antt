@@ -12,4 +12,5 @@ pub mod Joining
 pub mod Overlaying
 pub mod Joined
 pub mod Parted
+pub mod Placing
 pub mod Splitting

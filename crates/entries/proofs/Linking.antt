@@ -1,14 +1,20 @@
 -- A place leaves its chain, or joins one in front.
-use Rattle.std.proofs.Common.{◌≡◌, ◌<◌, ◌^◌, ◌≢◌, ℕ, ◌+◌, ◌-◌, List, [], ◌∷◌, ◌++◌, Option, Some, None, IsSome, refl, sym, ap, ◌∙◌}
+use Rattle.std.proofs.Common.{false, ◌≡◌, ◌<◌, ◌^◌, ◌≢◌, ℕ, ◌+◌, ◌-◌, List, [], ◌∷◌, ◌++◌, Option, Some, None, IsSome, refl, sym, ap, ◌∙◌, arith}
 use Rattle.entries.specs.declared.entry.Entry.{Entry}
 use Rattle.entries.specs.declared.entry.Chain.{Chain}
-use Rattle.entries.specs.Linked.{Node, first, final, Misses, pick, IsLinked, Relinks, with_newer, with_older, as_newest, SamePlaces, IsOn, Unlinks, Admits, Links}
+use Rattle.std.proofs.lemmas.Bool.{ne_eqb}
+use Rattle.entries.specs.Places.{mark, is_mark}
+use Rattle.entries.specs.Linked.{Node, first, final, Misses, pick, IsRun, IsLinked, Relinks, with_newer, with_older, as_newest, SamePlaces, IsOn, Unlinks, Admits, Links}
 use Rattle.entries.proofs.Runs.{IsRun-split, Misses-left, Misses-right, Misses-taken, final-misses}
 use Rattle.entries.proofs.Relinking.{LeadsThere, none-there, final-there, first-there, Relinks-places, Relinks-there, taken, put_first}
 
 first-misses : {D : Type 0} (at : ℕ) (ns : List (Node D)) → Misses (Some at) ns → first ns None ≢ Some at
 first-misses at [] misses = λ same. cc
 first-misses at (n ∷ ns) misses = λ same. misses.0 (sym same)
+
+-- a place of a list is no mark
+pub place_unmarked : (place : ℕ) → place + 2 < 2 ^ 32 → is_mark (Some place) ≡ false
+place_unmarked place fits = ne_eqb place mark (λ same. omega (arith, fits, same))
 
 module _ {D : Type 0} where
   pub is_there : (h : ℕ → Option (Entry D)) (j : ℕ) (e : Entry D) → h j ≡ Some e → IsSome (h j)
@@ -46,6 +52,22 @@ module _ {D : Type 0} where
       let a = around h chain place e on.front on.digest on.back there on.linked in
       let p = Relinks-there one a.older_there j (sym a.older ∙ same) in is_there k j p.0 p.1
 
+  final-unmarked : (h : ℕ → Option (Entry D)) (before : Option ℕ) (xs : List (Node D)) (after : Option ℕ) → is_mark before ≡ false → IsRun h before xs after → is_mark (final before xs) ≡ false
+  final-unmarked h before [] after unmarked p = unmarked
+  final-unmarked h before (x ∷ xs) after unmarked p = final-unmarked h (Some x.0) xs after (place_unmarked x.0 p.0.fits) p.1
+
+  pub newer_unmarked : (h : ℕ → Option (Entry D)) (chain : Chain) (place : ℕ) (e : Entry D) → h place ≡ Some e → IsOn h chain place → is_mark e.newer ≡ false
+  newer_unmarked h chain place e there on =
+      let a = around h chain place e on.front on.digest on.back there on.linked in
+      let front = (IsRun-split h None on.front ((place, on.digest) ∷ on.back) None on.linked.run).0 in
+      ap is_mark a.newer ∙ final-unmarked h None on.front _ refl front
+
+  -- the newest is there
+  pub newest_there : (h k : ℕ → Option (Entry D)) (chain : Chain) (place : ℕ) (change : Entry D → Entry D) → Admits h chain place → Relinks h k (Some place) change → (j : ℕ) → chain.newest ≡ Some j → IsSome (k j)
+  newest_there h k chain place change admits one j same =
+      let first : LeadsThere h chain.newest = rw admits.linked.newest (first-there h None admits.nodes None admits.linked.run) in
+      let p = Relinks-there one first j same in is_there k j p.0 p.1
+
   module _ {h k l : ℕ → Option (Entry D)} {chain next : Chain} {place : ℕ} where
     pub unlinks : {e : Entry D} → h place ≡ Some e → IsOn h chain place
         → Relinks h k e.newer (with_older e.older) → Relinks k l e.older (with_newer e.newer)
@@ -68,7 +90,7 @@ module _ {D : Type 0} where
           places = SamePlaces-join h k l (Relinks-places one newer_there) (Relinks-places two (Relinks-there one older_there));
         }
 
-    pub links : {d : D} → Admits h chain place → place + 1 < 2 ^ 32
+    pub links : {d : D} → Admits h chain place → place + 2 < 2 ^ 32
         → Relinks h k (Some place) (as_newest d chain.newest) → Relinks k l chain.newest (with_newer (Some place))
         → next.newest ≡ Some place → next.oldest ≡ pick chain.oldest chain.oldest (Some place) → next.len ≡ chain.len + 1
         → Links h l chain next place d

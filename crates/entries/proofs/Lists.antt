@@ -7,8 +7,8 @@ use Rattle.std.proofs.lemmas.List.Sums.{sum_by-cons, sum_by-append}
 use Rattle.entries.specs.declared.entry.Charged.{Charged}
 use Rattle.entries.specs.declared.entry.Entry.{Entry}
 use Rattle.entries.specs.declared.entry.Chain.{Chain}
-use Rattle.entries.specs.Linked.{Node, Misses, IsIn, IsRun, IsLinked, IsChain, IsOn, HasNodes, SameValues, Promotes, Pushes, Pops}
-use Rattle.entries.specs.Store.{Row, nodes, elsewhere, moved, values_of, bytes_of, IsWhole, Cuts, Trims}
+use Rattle.entries.specs.Linked.{Node, Misses, IsIn, IsRun, IsLinked, IsChain, IsOn, HasNodes, Promotes, Pushes, Pops}
+use Rattle.entries.specs.Store.{nodes, elsewhere, moved, values_of, bytes_of, IsWhole, Cuts, Trims}
 use Rattle.entries.proofs.Runs.{IsRun-split, walk-run}
 use Rattle.entries.proofs.Stores.{none_there, moved-parts}
 
@@ -131,18 +131,9 @@ module _ {D : Type 0} where
       let r = t.1 (nodes h c) whole.chain in
       let seen = nodes-is k next r.1 r.3.linked in (
         whole_of k next r.1 r.3
-        (omega (arith, t.2, whole.sum, ap bytes_of r.2, bytes_of-append r.1 ((r.0, stale) ∷ []), bytes_of-cons (r.0, stale) [])),
+            (omega (arith, t.2, whole.sum, ap bytes_of r.2, bytes_of-append r.1 ((r.0, stale) ∷ []), bytes_of-cons (r.0, stale) [])),
         (omega (arith, whole.chain.linked.len, t.0), record { place = r.0; last = rw seen r.2 }),
       )
-
-  -- a list that stays
-  pub keeps : (h k : ℕ → Option (Entry (Charged D))) (c next : Chain) → next ≡ c → SameValues h k → IsWhole h c → IsWhole k next × (nodes k next ≡ nodes h c)
-  keeps h k c next kept values whole =
-      let same_heap : k ≡ h = λ i j. values j i in
-      (rw (same_heap, kept) whole, rw (same_heap, kept) refl)
-
-  pub same_row : (ns ms : List (Node (Charged D))) (v w : ℕ) → ns ≡ ms → v ≡ w → ◌≡◌ {A = Row D} (record { nodes = ns; vacant = v }) (record { nodes = ms; vacant = w })
-  same_row ns ms v w nodes_are vacant_is = cc
 
   pub Cuts-along : (size : ℕ) (stale : Option (Charged D)) (ms ns out : List (Node (Charged D))) → ms ≡ ns → Cuts size stale ms out → Cuts size stale ns out
   Cuts-along size stale ms ns out same cut = rw same at cut

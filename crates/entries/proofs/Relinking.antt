@@ -93,7 +93,7 @@ module _ {D : Type 0} where
 
     -- a node put in front of a chain
     pub put_first : {place : ℕ} {d : D} {e : Entry D} {ns : List (Node D)} → IsLinked h chain ns → Misses (Some place) ns
-        → h place ≡ Some e → place + 1 < 2 ^ 32
+        → h place ≡ Some e → place + 2 < 2 ^ 32
         → Relinks h k (Some place) (as_newest d (first ns None)) → Relinks k l (first ns None) (with_newer (Some place))
         → next.newest ≡ Some place → next.oldest ≡ pick (final None ns) (final None ns) (Some place) → next.len ≡ chain.len + 1
         → IsLinked l next ((place, d) ∷ ns)

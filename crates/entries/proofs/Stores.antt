@@ -225,7 +225,7 @@ module _ {K D : Type 0} {same : K → K → Bool} (laws : IsEquivalence same) wh
       cut = (
         omega (arith, ap length mid_nodes, cut.0),
         evicts mid fs p more next (now_at es mid p old more was refl distinct) (is ∙ sym (set_value-twice (same p) es more next))
-        (written_distinct es mid p more refl distinct) stale cut.1,
+            (written_distinct es mid p more refl distinct) stale cut.1,
       );
     }
 

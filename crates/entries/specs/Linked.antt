@@ -40,11 +40,11 @@ pick None there otherwise = otherwise
 pick (Some i) there otherwise = there
 
 module _ {D : Type 0} where
-  -- the entry at the node's place has its digest and these links, and a link can lead to the place
+  -- the entry at the node's place has its digest and these links, and a list can have the place
   pub record IsAt (h : ℕ → Option (Entry D)) (n : Node D) (before after : Option ℕ) : Type 0 where
     pub entry : Entry D
     pub there : h n.0 ≡ Some entry
-    pub fits : n.0 + 1 < 2 ^ 32
+    pub fits : n.0 + 2 < 2 ^ 32
     pub digest : entry.digest ≡ n.1
     pub newer : entry.newer ≡ before
     pub older : entry.older ≡ after

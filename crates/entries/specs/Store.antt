@@ -3,11 +3,11 @@
 use Rattle.std.specs.Prelude.{◌≡◌, ◌==◌, ◌≤◌, ◌<◌, ◌-◌, ℕ, Bool, true, false, not, ◌||◌, if◌then◌else◌, List, [], ◌∷◌, ◌++◌, length, map, Option, Some, None, is_some, unwrap_or, MatchOption}
 use Rattle.std.specs.List.{filter, list_any, sum_by, IsDistinct}
 use Rattle.std.specs.Map.{lookup, keys_of}
-use Rattle.slab.specs.Slab.{Slab, get}
 use Rattle.entries.specs.declared.entry.Charged.{Charged}
 use Rattle.entries.specs.declared.entry.Entry.{Entry}
 use Rattle.entries.specs.declared.entry.Chain.{Chain}
 use Rattle.entries.specs.Linked.{Node, walk, IsChain, Pops}
+use Rattle.entries.specs.Places.{Heap, get}
 
 -- the list that a map has at the key, or none
 abbrev pub items_at : {K X : Type 0} → (K → K → Bool) → K → List (K × List X) → List X
@@ -119,6 +119,6 @@ module _ {D : Type 0} where
   Trims size old new chain next (Some stale) = (size < chain.len) × Pops old new chain next (Some stale) × (next.bytes ≡ chain.bytes - stale.charge)
 
 -- the digests that are left from a link on, if there are places
-abbrev pub left_on : {D : Type 0} → ℕ → Option ℕ → Option (Slab (Entry (Charged D))) → List D
+abbrev pub left_on : {D : Type 0} → ℕ → Option ℕ → Option (Heap (Charged D)) → List D
 left_on left at None = []
 left_on left at (Some places) = digests_of (walk (get places) left at)

@@ -2,15 +2,16 @@
 ghost use Rattle.std.specs.Prelude.{◌≡◌, ℕ, Bool, true, Some, None, List, [], ◌∷◌, ◌++◌, ◌+◌, ◌^◌};
 ghost use Rattle.std.specs.Prelude.{MatchOption, ◌<◌, OnErr, OnOk, IfOk, IsOk, IfSome, IfNone, length};
 ghost use Rattle.std.specs.Option.{option_copied};
-ghost use Rattle.slab.specs.Slab.{get, HasRoomFor};
+ghost use Rattle.entries.specs.Places.{get};
 ghost use Rattle.entries.specs.Linked.{IsOn, Admits, Promotes, Pushes, Pops};
 ghost use Rattle.entries.specs.Linked.{HasNodes, SameValues, entry_at};
 ghost use Rattle.entries.specs.Overlaid.{overlaid};
 ghost use Rattle.entries.specs.Store.{nodes, bytes_of, digests_of, Trims};
 
-use crate::entry::{Chain, Charged, Entry, Places};
+use crate::entry::{Chain, Charged, Entry};
 use crate::link::Link;
 use crate::links::{link_front, unlink};
+use crate::places::Places;
 use std::alloc::{AllocError, Global};
 use std::marker::Model;
 
@@ -32,26 +33,16 @@ pub fn push_front(
     digest: Charged<usize>,
 ) -> Result<usize, AllocError>
     requires { HasNodes (get places.old) chain.old }
-    ensures place { IfOk result (λ place. place ≡ places.old.vacant_key) }
+    ensures place { IfOk result (λ place. place ≡ places.old.vacant) }
     ensures ok { IfOk result (λ place. Pushes (get places.old)
         (get places.new) chain.old chain.new place digest) }
-    ensures err { OnErr result ((chain.new ≡ chain.old) × SameValues (get places.old)
-        (get places.new)
-        × (places.new.vacant_key ≡ places.old.vacant_key)) }
+    ensures err { OnErr result ((chain.new ≡ chain.old) × (places.new ≡ places.old)) }
     ensures bytes { chain.new.bytes ≡ chain.old.bytes }
 {
-    if chain.len == usize::MAX || !Link::reaches(places.vacant_key()) {
+    if chain.len == usize::MAX || !Link::reaches(places.vacant()) {
         return Err(AllocError);
     }
-    let entry = Entry {
-        digest,
-        newer: Link::none(),
-        older: Link::none(),
-    };
-    let place = match places.insert(entry) {
-        Ok(place) => place,
-        Err(_) => return Err(AllocError),
-    };
+    let place = places.insert(digest)?;
     link_front(places, chain, place, digest);
     Ok(place)
 }

@@ -11,6 +11,7 @@ pub mod link;
 pub mod links;
 pub mod list;
 pub mod parts;
+pub mod places;
 pub mod store;
 pub mod table;
 

@@ -1,10 +1,14 @@
 //! A link to a place.
 ghost use Rattle.std.specs.Prelude.{◌≡◌, ◌+◌, ◌^◌, ◌<◌, ℕ, None, Some, MatchBool, ⊤};
+ghost use Rattle.entries.specs.Places.{mark, is_mark};
 
 use std::marker::Model;
 
 /// The word of a link that leads nowhere.
 const NOWHERE: u32 = u32::MAX;
+
+/// The word of the link that marks a free place.
+const MARK: u32 = u32::MAX - 1;
 
 /// The place that a link leads to, or none, in 32 bits.
 #[derive(Clone, Copy)]
@@ -39,11 +43,25 @@ impl Link {
         Link { at: place as u32 }
     }
 
-    /// Returns whether a link can lead to the place.
-    pub fn reaches(place: usize) -> bool
-        ensures { MatchBool result (place + 1 < 2 ^ 32) ⊤ }
+    /// Creates the link that marks a free place.
+    pub fn mark() -> Self
+        ensures { result ≡ Some mark }
     {
-        place < NOWHERE as usize
+        Link { at: MARK }
+    }
+
+    /// Returns whether the link marks a free place.
+    pub fn is_mark(self) -> bool
+        ensures { result ≡ is_mark self }
+    {
+        self.at == MARK
+    }
+
+    /// Returns whether a list can have the place.
+    pub fn reaches(place: usize) -> bool
+        ensures { MatchBool result (place + 2 < 2 ^ 32) ⊤ }
+    {
+        place < MARK as usize
     }
 
     /// Returns the place that the link leads to.

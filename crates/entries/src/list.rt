@@ -1,13 +1,13 @@
 //! A list in a vector of its own.
 ghost use Rattle.std.specs.Prelude.{◌≡◌, ◌+◌, ◌^◌, ◌<◌, ◌∷◌, [], length, IfOk, OnErr, MatchOption};
-ghost use Rattle.slab.specs.Slab.{get};
+ghost use Rattle.entries.specs.Places.{get};
 ghost use Rattle.entries.specs.Linked.{IsApart, HasNodes};
 ghost use Rattle.entries.specs.Store.{nodes, moved, digests_of, bytes_of, Cuts};
 
 use crate::chain::{self, Walk};
-use crate::entry::{Chain, Charged, Places};
+use crate::entry::{Chain, Charged};
 use crate::link::Link;
-use slab::Slab;
+use crate::places::Places;
 use std::alloc::{AllocError, Global};
 use std::marker::Model;
 
@@ -20,14 +20,14 @@ pub struct LinkedList {
 
 impl Model for LinkedList {
     ghost use Rattle.std.specs.Prelude.{ℕ};
-    ghost use Rattle.slab.specs.Slab.{get};
+    ghost use Rattle.entries.specs.Places.{get};
     ghost use Rattle.entries.specs.Store.{Row, nodes, IsWhole};
 
     ghost Value = { Row ℕ };
 
     ghost view = { λ it. record {
       nodes = nodes (get it.places) it.chain;
-      vacant = it.places.vacant_key;
+      vacant = it.places.vacant;
     } };
 
     ghost invariant = { λ it. IsWhole (get it.places) it.chain };
@@ -39,7 +39,7 @@ impl LinkedList {
         ensures { result ≡ record { nodes = []; vacant = 0 } }
     {
         LinkedList {
-            places: Slab::new(alloc),
+            places: Places::new(alloc),
             chain: Chain {
                 newest: Link::none(),
                 oldest: Link::none(),
@@ -53,7 +53,7 @@ impl LinkedList {
     pub fn vacant(&self) -> usize
         ensures { result ≡ self.now.vacant }
     {
-        self.places.vacant_key()
+        self.places.vacant()
     }
 
     /// Returns the sum of the charges.
@@ -90,7 +90,7 @@ impl LinkedList {
     /// Puts a digest in front, at the place of the next insert, and removes the oldest digest if
     /// there are then more than `size`. Returns what was removed.
     ///
-    /// On an allocation failure nothing changes. A list that has no place below 2^32 - 1 left fails
+    /// On an allocation failure nothing changes. A list that has no place below 2^32 - 2 left fails
     /// in the same way.
     pub fn push(
         &mut self,

@@ -1,4 +1,4 @@
-use Rattle.slab.specs.Slab.{get}
+use Rattle.entries.specs.Places.{get}
 use Rattle.entries.proofs.Chains.{admits, on_there, promotes}
 use Rattle.entries.proofs.chain.promote.Goals as goal
 

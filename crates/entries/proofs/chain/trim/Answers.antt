@@ -1,5 +1,5 @@
 use Rattle.std.proofs.Common.{arith}
-use Rattle.slab.specs.Slab.{get}
+use Rattle.entries.specs.Places.{get}
 use Rattle.entries.proofs.Lists.{oldest-charge}
 use Rattle.entries.proofs.chain.trim.Goals as goal
 

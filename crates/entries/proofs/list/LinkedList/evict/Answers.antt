@@ -1,4 +1,4 @@
-use Rattle.slab.specs.Slab.{get}
+use Rattle.entries.specs.Places.{get}
 use Rattle.entries.proofs.Lists.{trims}
 use Rattle.entries.proofs.list.LinkedList.evict.Goals as goal
 

@@ -1,5 +1,5 @@
 use Rattle.std.proofs.Common.{◌+◌, ◌-◌, sym, arith}
-use Rattle.slab.specs.Slab.{get}
+use Rattle.entries.specs.Places.{get}
 use Rattle.entries.proofs.Lists.{own_on, place-charge, renews, not_moved}
 use Rattle.entries.proofs.list.LinkedList.promote.Goals as goal
 

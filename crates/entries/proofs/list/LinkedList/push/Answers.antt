@@ -1,15 +1,13 @@
-use Rattle.std.proofs.Common.{◌+◌, arith}
-use Rattle.slab.specs.Slab.{get}
-use Rattle.entries.proofs.Lists.{with_bytes, fronts, trims, has_nodes, keeps, same_row, Cuts-along, on_err}
+use Rattle.std.proofs.Common.{◌+◌, refl, arith}
+use Rattle.entries.specs.Places.{get}
+use Rattle.entries.proofs.Lists.{with_bytes, fronts, trims, has_nodes, Cuts-along, on_err}
 use Rattle.entries.proofs.list.LinkedList.push.Goals as goal
 
 pub invariant_of-self : goal.invariant_of-self
-invariant_of-self c = (keeps (get c.self.inside.places) (get c.push_front.new.places) c.self.inside.chain c.push_front.new.chain c.in_err-push_front.ensures.err.0 c.in_err-push_front.ensures.err.1 c.self.invariant).0
+invariant_of-self c = rw (c.in_err-push_front.ensures.err.0, c.in_err-push_front.ensures.err.1) c.self.invariant
 
 pub returns-in_err-push_front-clause-err : goal.returns-in_err-push_front-clause-err
-returns-in_err-push_front-clause-err c =
-    let kept = keeps (get c.self.inside.places) (get c.push_front.new.places) c.self.inside.chain c.push_front.new.chain c.in_err-push_front.ensures.err.0 c.in_err-push_front.ensures.err.1 c.self.invariant in
-    rw (← c.self.view_is) (on_err _ (same_row _ _ _ _ kept.1 c.in_err-push_front.ensures.err.2))
+returns-in_err-push_front-clause-err c = rw (← c.self.view_is, c.in_err-push_front.ensures.err.0, c.in_err-push_front.ensures.err.1) (on_err _ refl)
 
 pub trim-requires-clause-nodes : goal.trim-requires-clause-nodes
 trim-requires-clause-nodes c =
