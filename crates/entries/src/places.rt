@@ -9,7 +9,8 @@ use crate::link::Link;
 use std::alloc::{AllocError, Global};
 use std::marker::Model;
 
-/// The entries of a list, each at its place. A free place is marked, and leads to the next free one.
+/// The entries of a list, each at its place. A free place is marked, and leads to the next free
+/// one.
 #[derive(Drop)]
 pub struct Places {
     entries: Vec<Entry<Charged<usize>>>,

@@ -116,7 +116,8 @@ impl Entries {
         ensures bytes { IfOk result (λ pushed. pushed.0
             ≡ bytes_of (items_at same_number list self.new.lists)) }
         ensures ok { IfOk result (λ pushed. Extends same_number list
-            (vacant_at same_number list self.old, digest) size pushed.1 self.old.lists self.new.lists) }
+            (vacant_at same_number list self.old, digest) size pushed.1
+            self.old.lists self.new.lists) }
         ensures err { OnErr result (self.new ≡ self.old) }
     {
         let Some(found) = self.lists.get_mut(list) else {

@@ -332,8 +332,8 @@ fn push<M: Digestible>(
     requires tabled { IsTabled M.Digest.cmp (λ m. m.digest) table.old }
     ensures bytes { IfOk result (λ bytes. bytes
         ≡ sum_of (nodes_at same_number list lists.new.lists)) }
-    ensures ok { OnOk result (Pushes M.Digest.cmp list (vacant_at same_number list lists.old, charged) size
-        lists.old.lists lists.new.lists table.old table.new) }
+    ensures ok { OnOk result (Pushes M.Digest.cmp list (vacant_at same_number list lists.old,
+        charged) size lists.old.lists lists.new.lists table.old table.new) }
     ensures stays { OnErr result (lists.new ≡ lists.old) }
     ensures err { OnErr result (Takes M.Digest.cmp (λ m. m.digest) charged.digest list
         table.old table.new) }
