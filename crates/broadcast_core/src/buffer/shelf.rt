@@ -332,8 +332,9 @@ fn push<M: Digestible>(
     requires tabled { IsTabled M.Digest.cmp (λ m. m.digest) table.old }
     ensures bytes { IfOk result (λ bytes. bytes
         ≡ sum_of (nodes_at same_number list lists.new.lists)) }
-    ensures ok { OnOk result (Pushes M.Digest.cmp list (vacant_at same_number list lists.old,
-        charged) size lists.old.lists lists.new.lists table.old table.new) }
+    ensures ok { let place = vacant_at same_number list lists.old in
+        OnOk result (Pushes M.Digest.cmp list (place, charged) size
+        lists.old.lists lists.new.lists table.old table.new) }
     ensures stays { OnErr result (lists.new ≡ lists.old) }
     ensures err { OnErr result (Takes M.Digest.cmp (λ m. m.digest) charged.digest list
         table.old table.new) }
@@ -371,8 +372,9 @@ fn push_with_room<M: Digestible>(
     requires room { sum_of (nodes_at same_number list lists.old.lists) + charged.charge < 2 ^ 128 }
     ensures bytes { IfOk result (λ pushed. pushed.0
         ≡ sum_of (nodes_at same_number list lists.new.lists)) }
-    ensures ok { IfOk result (λ pushed. Extends same_number list (vacant_at same_number list
-        lists.old, charged) size pushed.1 lists.old.lists lists.new.lists) }
+    ensures ok { let place = vacant_at same_number list lists.old in
+        IfOk result (λ pushed. Extends same_number list (place, charged) size
+        pushed.1 lists.old.lists lists.new.lists) }
     ensures err { OnErr result (lists.new ≡ lists.old) }
     ensures left { Widens left.old left.new }
     ensures left_room { OnOk result (HasRoom messages left.new) }
