@@ -1,5 +1,5 @@
 -- Runs of nodes, and what a changed link makes of them.
-use Rattle.std.proofs.Common.{Bool, ◌≡◌, ◌≢◌, ℕ, List, [], ◌∷◌, ◌++◌, length, Option, Some, None, refl, sym, ◌∙◌}
+use Rattle.std.proofs.Common.{◌≡◌, ◌≢◌, ℕ, List, [], ◌∷◌, ◌++◌, length, Option, Some, None, refl, sym, ◌∙◌}
 use Rattle.entries.specs.declared.entry.Entry.{Entry}
 use Rattle.entries.specs.Linked.{Node, first, final, Misses, IsApart, IsAt, IsRun, walk, Relinks, with_newer, with_older}
 
@@ -65,41 +65,41 @@ module _ {D : Type 0} where
       let apart : Misses (Some x.0) (n ∷ ys) = Misses-right _ xs (n ∷ ys) p.0 in
       (λ same. apart.0 (sym same), Misses-taken xs n ys p.1)
 
-module _ {K D : Type 0} (mine : K → Bool) where
-  pub IsAt-along : (h k : ℕ → Option (Entry K D)) (n : Node D) (newer older : Option ℕ) → k n.0 ≡ h n.0 → IsAt mine h n newer older → IsAt mine k n newer older
+module _ {D : Type 0} where
+  pub IsAt-along : (h k : ℕ → Option (Entry D)) (n : Node D) (newer older : Option ℕ) → k n.0 ≡ h n.0 → IsAt h n newer older → IsAt k n newer older
   IsAt-along h k n newer older same p = record {
     entry = p.entry;
     there = same ∙ p.there;
-    owned = p.owned;
+    fits = p.fits;
     digest = p.digest;
     newer = p.newer;
     older = p.older;
   }
 
-  pub IsRun-split : (h : ℕ → Option (Entry K D)) (before : Option ℕ) (xs ys : List (Node D)) (after : Option ℕ) → IsRun mine h before (xs ++ ys) after → IsRun mine h before xs (first ys after) × IsRun mine h (final before xs) ys after
+  pub IsRun-split : (h : ℕ → Option (Entry D)) (before : Option ℕ) (xs ys : List (Node D)) (after : Option ℕ) → IsRun h before (xs ++ ys) after → IsRun h before xs (first ys after) × IsRun h (final before xs) ys after
   IsRun-split h before [] ys after p = (tt, p)
   IsRun-split h before (x ∷ xs) ys after p =
       let rest = IsRun-split h (Some x.0) xs ys after p.1 in
       ((rw (first-append xs ys after) at p.0, rest.0), rest.1)
 
-  pub IsRun-join : (h : ℕ → Option (Entry K D)) (before : Option ℕ) (xs ys : List (Node D)) (after : Option ℕ) → IsRun mine h before xs (first ys after) → IsRun mine h (final before xs) ys after → IsRun mine h before (xs ++ ys) after
+  pub IsRun-join : (h : ℕ → Option (Entry D)) (before : Option ℕ) (xs ys : List (Node D)) (after : Option ℕ) → IsRun h before xs (first ys after) → IsRun h (final before xs) ys after → IsRun h before (xs ++ ys) after
   IsRun-join h before [] ys after p q = q
   IsRun-join h before (x ∷ xs) ys after p q = (rw (first-append xs ys after) p.0, IsRun-join h (Some x.0) xs ys after p.1 q)
 
   -- a change elsewhere keeps a run
-  pub IsRun-elsewhere : (h k : ℕ → Option (Entry K D)) (at before : Option ℕ) (ns : List (Node D)) (after : Option ℕ) → ((j : ℕ) → at ≢ Some j → k j ≡ h j) → Misses at ns → IsRun mine h before ns after → IsRun mine k before ns after
+  pub IsRun-elsewhere : (h k : ℕ → Option (Entry D)) (at before : Option ℕ) (ns : List (Node D)) (after : Option ℕ) → ((j : ℕ) → at ≢ Some j → k j ≡ h j) → Misses at ns → IsRun h before ns after → IsRun k before ns after
   IsRun-elsewhere h k at before [] after others misses p = tt
   IsRun-elsewhere h k at before (n ∷ ns) after others misses p =
       (IsAt-along h k n _ _ (others n.0 misses.0) p.0, IsRun-elsewhere h k at (Some n.0) ns after others misses.1 p.1)
 
   -- the last node of a run gets another older link
-  pub IsRun-older : (h k : ℕ → Option (Entry K D)) (before : Option ℕ) (xs : List (Node D)) (after next : Option ℕ) → Relinks h k (final None xs) (with_older next) → IsApart xs → IsRun mine h before xs after → IsRun mine k before xs next
+  pub IsRun-older : (h k : ℕ → Option (Entry D)) (before : Option ℕ) (xs : List (Node D)) (after next : Option ℕ) → Relinks h k (final None xs) (with_older next) → IsApart xs → IsRun h before xs after → IsRun k before xs next
   IsRun-older h k before [] after next relinks apart p = tt
   IsRun-older h k before (x ∷ []) after next relinks apart p = (
     record {
       entry = with_older next p.0.entry;
       there = relinks.changed x.0 p.0.entry refl p.0.there;
-      owned = p.0.owned;
+      fits = p.0.fits;
       digest = p.0.digest;
       newer = p.0.newer;
       older = refl;
@@ -111,13 +111,13 @@ module _ {K D : Type 0} (mine : K → Bool) where
       (IsAt-along h k x _ _ (relinks.others x.0 away) p.0, IsRun-older h k (Some x.0) (y ∷ ys) after next relinks apart.1 p.1)
 
   -- the first node of a run gets another newer link
-  pub IsRun-newer : (h k : ℕ → Option (Entry K D)) (before next : Option ℕ) (ys : List (Node D)) (after : Option ℕ) → Relinks h k (first ys None) (with_newer next) → IsApart ys → IsRun mine h before ys after → IsRun mine k next ys after
+  pub IsRun-newer : (h k : ℕ → Option (Entry D)) (before next : Option ℕ) (ys : List (Node D)) (after : Option ℕ) → Relinks h k (first ys None) (with_newer next) → IsApart ys → IsRun h before ys after → IsRun k next ys after
   IsRun-newer h k before next [] after relinks apart p = tt
   IsRun-newer h k before next (y ∷ ys) after relinks apart p = (
     record {
       entry = with_newer next p.0.entry;
       there = relinks.changed y.0 p.0.entry refl p.0.there;
-      owned = p.0.owned;
+      fits = p.0.fits;
       digest = p.0.digest;
       newer = refl;
       older = p.0.older;
@@ -126,7 +126,7 @@ module _ {K D : Type 0} (mine : K → Bool) where
   )
 
   -- what a chain's nodes are, by a walk
-  pub walk-run : (h : ℕ → Option (Entry K D)) (before : Option ℕ) (ns : List (Node D)) → IsRun mine h before ns None → walk h (length ns) (first ns None) ≡ ns
+  pub walk-run : (h : ℕ → Option (Entry D)) (before : Option ℕ) (ns : List (Node D)) → IsRun h before ns None → walk h (length ns) (first ns None) ≡ ns
   walk-run h before [] p = refl
   walk-run h before (n ∷ ns) p =
       rw (p.0.there, p.0.digest, p.0.older, walk-run h (Some n.0) ns p.1)

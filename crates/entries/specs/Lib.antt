@@ -4,6 +4,7 @@ pub mod Linked
 pub mod Overlaid
 pub mod Parts
 pub mod Placed
+pub mod Places
 pub mod Slots
 pub mod Store
 pub mod Table

@@ -4,7 +4,7 @@ use Rattle.std.specs.Prelude.{◌==◌, ◌^◌, ◌-◌, ℕ, if◌then◌else�
 
 -- the word of a link that leads nowhere
 abbrev pub nowhere : ℕ
-nowhere = 2 ^ 64 - 1
+nowhere = 2 ^ 32 - 1
 
 -- where the word leads
 abbrev pub link_of : ℕ → Option ℕ

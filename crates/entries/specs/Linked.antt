@@ -1,6 +1,6 @@
 -- Internal.
--- Chains of entries in a heap, which says what stands at each place.
-use Rattle.std.specs.Prelude.{◌≡◌, ◌≢◌, ℕ, zero, suc, Bool, true, false, List, [], ◌∷◌, ◌++◌, length, Option, Some, None, ◌⊎◌}
+-- A chain of entries in a heap, which says what stands at each place.
+use Rattle.std.specs.Prelude.{◌≡◌, ◌≢◌, ◌+◌, ◌^◌, ◌<◌, ℕ, zero, suc, List, [], ◌∷◌, ◌++◌, length, Option, Some, None, ◌⊎◌}
 use Rattle.entries.specs.declared.entry.Entry.{Entry}
 use Rattle.entries.specs.declared.entry.Chain.{Chain}
 
@@ -39,131 +39,114 @@ abbrev pub pick : Option ℕ → Option ℕ → Option ℕ → Option ℕ
 pick None there otherwise = otherwise
 pick (Some i) there otherwise = there
 
-module _ {K D : Type 0} (mine : K → Bool) where
-  -- the entry at the node's place is mine, and has its digest and these links
-  pub record IsAt (h : ℕ → Option (Entry K D)) (n : Node D) (before after : Option ℕ) : Type 0 where
-    pub entry : Entry K D
+module _ {D : Type 0} where
+  -- the entry at the node's place has its digest and these links, and a list can have the place
+  pub record IsAt (h : ℕ → Option (Entry D)) (n : Node D) (before after : Option ℕ) : Type 0 where
+    pub entry : Entry D
     pub there : h n.0 ≡ Some entry
-    pub owned : mine entry.peer ≡ true
+    pub fits : n.0 + 2 < 2 ^ 32
     pub digest : entry.digest ≡ n.1
     pub newer : entry.newer ≡ before
     pub older : entry.older ≡ after
 
   -- the nodes follow one another, the newest first
-  abbrev pub IsRun : (ℕ → Option (Entry K D)) → Option ℕ → List (Node D) → Option ℕ → Type 0
+  abbrev pub IsRun : (ℕ → Option (Entry D)) → Option ℕ → List (Node D) → Option ℕ → Type 0
   IsRun h before [] after = Unit {0}
   IsRun h before (n ∷ ns) after = IsAt h n before (first ns after) × IsRun h (Some n.0) ns after
 
   -- the chain has these nodes
-  pub record IsLinked (h : ℕ → Option (Entry K D)) (chain : Chain) (ns : List (Node D)) : Type 0 where
+  pub record IsLinked (h : ℕ → Option (Entry D)) (chain : Chain) (ns : List (Node D)) : Type 0 where
     pub run : IsRun h None ns None
     pub apart : IsApart ns
     pub newest : chain.newest ≡ first ns None
     pub oldest : chain.oldest ≡ final None ns
     pub len : chain.len ≡ length ns
 
-  -- the chain has these nodes, and no other place has an entry of mine
-  pub record IsChain (h : ℕ → Option (Entry K D)) (chain : Chain) (ns : List (Node D)) : Type 0 where
+  -- the chain has these nodes, and no other place has an entry
+  pub record IsChain (h : ℕ → Option (Entry D)) (chain : Chain) (ns : List (Node D)) : Type 0 where
     pub linked : IsLinked h chain ns
-    pub all : (j : ℕ) (e : Entry K D) → h j ≡ Some e → mine e.peer ≡ true → IsIn j ns
+    pub all : (j : ℕ) (e : Entry D) → h j ≡ Some e → IsIn j ns
 
-  -- the entries that are not mine are the same
-  pub record Frame (old new : ℕ → Option (Entry K D)) : Type 0 where
-    pub forth : (j : ℕ) (e : Entry K D) → old j ≡ Some e → mine e.peer ≡ false → new j ≡ Some e
-    pub back : (j : ℕ) (e : Entry K D) → new j ≡ Some e → mine e.peer ≡ false → old j ≡ Some e
-
-module _ {K D : Type 0} where
   -- the entry that the link leads to
-  abbrev pub entry_at : (ℕ → Option (Entry K D)) → Option ℕ → Option (Entry K D)
+  abbrev pub entry_at : (ℕ → Option (Entry D)) → Option ℕ → Option (Entry D)
   entry_at h None = None
   entry_at h (Some i) = h i
 
   -- the first nodes from this link on
-  abbrev pub walk : (ℕ → Option (Entry K D)) → ℕ → Option ℕ → List (Node D)
+  abbrev pub walk : (ℕ → Option (Entry D)) → ℕ → Option ℕ → List (Node D)
   walk h zero at = []
   walk h (suc n) None = []
   walk h (suc n) (Some i) = step (h i) (walk h n)
     where
-      step : Option (Entry K D) → (Option ℕ → List (Node D)) → List (Node D)
+      step : Option (Entry D) → (Option ℕ → List (Node D)) → List (Node D)
       step None rest = []
       step (Some e) rest = (i, e.digest) ∷ rest e.older
 
   -- the entry that the link leads to is changed so, and no other
-  pub record Relinks (old new : ℕ → Option (Entry K D)) (at : Option ℕ) (change : Entry K D → Entry K D) : Type 0 where
-    pub changed : (j : ℕ) (e : Entry K D) → at ≡ Some j → old j ≡ Some e → new j ≡ Some (change e)
+  pub record Relinks (old new : ℕ → Option (Entry D)) (at : Option ℕ) (change : Entry D → Entry D) : Type 0 where
+    pub changed : (j : ℕ) (e : Entry D) → at ≡ Some j → old j ≡ Some e → new j ≡ Some (change e)
     pub others : (j : ℕ) → at ≢ Some j → new j ≡ old j
 
   -- with another link
-  abbrev pub with_newer : Option ℕ → Entry K D → Entry K D
+  abbrev pub with_newer : Option ℕ → Entry D → Entry D
   with_newer at e = record e { newer = at }
 
-  abbrev pub with_older : Option ℕ → Entry K D → Entry K D
+  abbrev pub with_older : Option ℕ → Entry D → Entry D
   with_older at e = record e { older = at }
 
   -- with another digest, as the newest
-  abbrev pub as_newest : D → Option ℕ → Entry K D → Entry K D
+  abbrev pub as_newest : D → Option ℕ → Entry D → Entry D
   as_newest digest older e = record e { digest = digest; newer = None; older = older }
 
-  -- each entry was one of the same peer
-  abbrev pub SamePeers : (ℕ → Option (Entry K D)) → (ℕ → Option (Entry K D)) → Type 0
-  SamePeers old new = (j : ℕ) (e : Entry K D) → new j ≡ Some e → (was : Entry K D) × (old j ≡ Some was) × (was.peer ≡ e.peer)
+  -- where an entry is, there was one
+  abbrev pub SamePlaces : (ℕ → Option (Entry D)) → (ℕ → Option (Entry D)) → Type 0
+  SamePlaces old new = (j : ℕ) (e : Entry D) → new j ≡ Some e → (was : Entry D) × (old j ≡ Some was)
 
-  -- the place is one of a chain
-  pub record IsOn (h : ℕ → Option (Entry K D)) (chain : Chain) (place : ℕ) : Type 0 where
-    pub mine : K → Bool
+  -- the place is one of the chain
+  pub record IsOn (h : ℕ → Option (Entry D)) (chain : Chain) (place : ℕ) : Type 0 where
     pub front : List (Node D)
     pub digest : D
     pub back : List (Node D)
-    pub linked : IsLinked mine h chain (front ++ (place, digest) ∷ back)
+    pub linked : IsLinked h chain (front ++ (place, digest) ∷ back)
 
   -- the place leaves its chain, and is as it was
-  pub record Unlinks (old new : ℕ → Option (Entry K D)) (chain rest : Chain) (place : ℕ) : Type 0 where
-    pub linked : (mine : K → Bool) (xs : List (Node D)) (d : D) (ys : List (Node D)) → IsLinked mine old chain (xs ++ (place, d) ∷ ys) → IsLinked mine new rest (xs ++ ys) × Frame mine old new
+  pub record Unlinks (old new : ℕ → Option (Entry D)) (chain rest : Chain) (place : ℕ) : Type 0 where
+    pub linked : (xs : List (Node D)) (d : D) (ys : List (Node D)) → IsLinked old chain (xs ++ (place, d) ∷ ys) → IsLinked new rest (xs ++ ys)
     pub kept : new place ≡ old place
-    pub peers : SamePeers old new
+    pub places : SamePlaces old new
 
-  -- a chain can take the place
-  pub record Admits (h : ℕ → Option (Entry K D)) (chain : Chain) (place : ℕ) : Type 0 where
-    pub mine : K → Bool
+  -- the chain can take the place
+  pub record Admits (h : ℕ → Option (Entry D)) (chain : Chain) (place : ℕ) : Type 0 where
     pub nodes : List (Node D)
-    pub linked : IsLinked mine h chain nodes
+    pub linked : IsLinked h chain nodes
     pub misses : Misses (Some place) nodes
-    pub entry : Entry K D
+    pub entry : Entry D
     pub there : h place ≡ Some entry
 
   -- the place becomes the newest of the chain
-  pub record Links (old new : ℕ → Option (Entry K D)) (chain more : Chain) (place : ℕ) (digest : D) : Type 0 where
-    pub linked : (mine : K → Bool) (ns : List (Node D)) (e : Entry K D) → IsLinked mine old chain ns → Misses (Some place) ns → old place ≡ Some e → mine e.peer ≡ true → IsLinked mine new more ((place, digest) ∷ ns) × Frame mine old new
-    pub peers : SamePeers old new
+  pub record Links (old new : ℕ → Option (Entry D)) (chain more : Chain) (place : ℕ) (digest : D) : Type 0 where
+    pub linked : (ns : List (Node D)) (e : Entry D) → IsLinked old chain ns → Misses (Some place) ns → old place ≡ Some e → IsLinked new more ((place, digest) ∷ ns)
+    pub places : SamePlaces old new
 
   -- every place is as it was
-  abbrev pub SameValues : (ℕ → Option (Entry K D)) → (ℕ → Option (Entry K D)) → Type 0
+  abbrev pub SameValues : (ℕ → Option (Entry D)) → (ℕ → Option (Entry D)) → Type 0
   SameValues old new = (j : ℕ) → new j ≡ old j
 
   -- the chain has some nodes
-  pub record HasNodes (h : ℕ → Option (Entry K D)) (chain : Chain) : Type 0 where
-    pub mine : K → Bool
+  pub record HasNodes (h : ℕ → Option (Entry D)) (chain : Chain) : Type 0 where
     pub nodes : List (Node D)
-    pub whole : IsChain mine h chain nodes
-
-  -- the chain is this peer's
-  pub record IsOwned (h : ℕ → Option (Entry K D)) (chain : Chain) (peer : K) : Type 0 where
-    pub mine : K → Bool
-    pub nodes : List (Node D)
-    pub linked : IsLinked mine h chain nodes
-    pub owned : mine peer ≡ true
+    pub whole : IsChain h chain nodes
 
   -- the place moves to the front of its chain
-  pub record Promotes (old new : ℕ → Option (Entry K D)) (chain next : Chain) (place : ℕ) (digest : D) : Type 0 where
-    pub chains : (mine : K → Bool) (xs : List (Node D)) (d : D) (ys : List (Node D)) → IsChain mine old chain (xs ++ (place, d) ∷ ys) → IsChain mine new next ((place, digest) ∷ (xs ++ ys)) × Frame mine old new
+  pub record Promotes (old new : ℕ → Option (Entry D)) (chain next : Chain) (place : ℕ) (digest : D) : Type 0 where
+    pub chains : (xs : List (Node D)) (d : D) (ys : List (Node D)) → IsChain old chain (xs ++ (place, d) ∷ ys) → IsChain new next ((place, digest) ∷ (xs ++ ys))
 
   -- a free place goes in front of the chain
-  pub record Pushes (old new : ℕ → Option (Entry K D)) (chain next : Chain) (peer : K) (place : ℕ) (digest : D) : Type 0 where
-    pub free : old place ≡ None
-    pub chains : (mine : K → Bool) (ns : List (Node D)) → mine peer ≡ true → IsChain mine old chain ns → IsChain mine new next ((place, digest) ∷ ns) × Frame mine old new
+  pub record Pushes (old new : ℕ → Option (Entry D)) (chain next : Chain) (place : ℕ) (digest : D) : Type 0 where
+    pub chains : (ns : List (Node D)) → IsChain old chain ns → IsChain new next ((place, digest) ∷ ns)
 
   -- the oldest place leaves the chain and is free, where there is one
-  abbrev pub Pops : (ℕ → Option (Entry K D)) → (ℕ → Option (Entry K D)) → Chain → Chain → Option D → Type 0
-  Pops old new chain next None = (mine : K → Bool) (ns : List (Node D)) → IsChain mine old chain ns → (ns ≡ []) × (next ≡ chain) × SameValues old new
-  Pops old new chain next (Some digest) = (mine : K → Bool) (ns : List (Node D)) → IsChain mine old chain ns
-      → (place : ℕ) × (xs : List (Node D)) × (ns ≡ xs ++ (place, digest) ∷ []) × (new place ≡ None) × IsChain mine new next xs × Frame mine old new
+  abbrev pub Pops : (ℕ → Option (Entry D)) → (ℕ → Option (Entry D)) → Chain → Chain → Option D → Type 0
+  Pops old new chain next None = (ns : List (Node D)) → IsChain old chain ns → (ns ≡ []) × (next ≡ chain) × SameValues old new
+  Pops old new chain next (Some digest) = (ns : List (Node D)) → IsChain old chain ns
+      → (place : ℕ) × (xs : List (Node D)) × (ns ≡ xs ++ (place, digest) ∷ []) × IsChain new next xs

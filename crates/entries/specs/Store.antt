@@ -1,5 +1,5 @@
 -- Internal.
--- The lists of all keys in one heap of places.
+-- The lists of all keys, each with a heap of places of its own.
 use Rattle.std.specs.Prelude.{◌≡◌, ◌==◌, ◌≤◌, ◌<◌, ◌-◌, ℕ, Bool, true, false, not, ◌||◌, if◌then◌else◌, List, [], ◌∷◌, ◌++◌, length, map, Option, Some, None, is_some, unwrap_or, MatchOption}
 use Rattle.std.specs.List.{filter, list_any, sum_by, IsDistinct}
 use Rattle.std.specs.Map.{lookup, keys_of}
@@ -7,15 +7,34 @@ use Rattle.entries.specs.declared.entry.Charged.{Charged}
 use Rattle.entries.specs.declared.entry.Entry.{Entry}
 use Rattle.entries.specs.declared.entry.Chain.{Chain}
 use Rattle.entries.specs.Linked.{Node, walk, IsChain, Pops}
+use Rattle.entries.specs.Places.{Heap, get}
 
 -- the list that a map has at the key, or none
 abbrev pub items_at : {K X : Type 0} → (K → K → Bool) → K → List (K × List X) → List X
 items_at same k es = unwrap_or (lookup (same k) es) []
 
--- the charged nodes of each key, the newest first, and the place of the next insert
+-- the charged nodes of a list, the newest first, and the place of its next insert
+pub record Row (D : Type 0) : Type 0 where
+  pub nodes : List (Node (Charged D))
+  pub vacant : ℕ
+
+-- the charged nodes of each key, the newest first, and the place of its next insert
 pub record Listed (K D : Type 0) : Type 0 where
   pub lists : List (K × List (Node (Charged D)))
-  pub vacant : ℕ
+  pub vacant : List (K × ℕ)
+
+module _ {K D : Type 0} where
+  -- the place of the next insert into the key's list
+  abbrev pub vacant_at : (K → K → Bool) → K → Listed K D → ℕ
+  vacant_at same p l = unwrap_or (lookup (same p) l.vacant) 0
+
+  -- the nodes of all keys
+  abbrev pub lists_of : List (K × Row D) → List (K × List (Node (Charged D)))
+  lists_of es = map (λ e. (e.0, e.1.nodes)) es
+
+  -- the place of the next insert of all keys
+  abbrev pub vacants_of : List (K × Row D) → List (K × ℕ)
+  vacants_of es = map (λ e. (e.0, e.1.vacant)) es
 
 module _ {D : Type 0} where
   -- what stands at nodes
@@ -43,15 +62,22 @@ module _ {D : Type 0} where
   abbrev pub bytes_of : List (Node (Charged D)) → ℕ
   bytes_of ns = sum_by (λ c. c.charge) (values_of ns)
 
-module _ {K D : Type 0} where
+module _ {D : Type 0} where
   -- the nodes of a chain
-  abbrev pub nodes : (ℕ → Option (Entry K D)) → Chain → List (Node D)
+  abbrev pub nodes : (ℕ → Option (Entry D)) → Chain → List (Node D)
   nodes h c = walk h c.len c.newest
 
-  -- the nodes of all keys
-  abbrev pub lists_of : (ℕ → Option (Entry K D)) → List (K × Chain) → List (K × List (Node D))
-  lists_of h es = map (λ e. (e.0, nodes h e.1)) es
+  -- the oldest digest leaves a list
+  pub record Shortens (stale : D) (old new : List (Node D)) : Type 0 where
+    pub place : ℕ
+    pub last : old ≡ new ++ (place, stale) ∷ []
 
+  -- the oldest digest leaves a list that has more than that
+  abbrev pub Cuts : ℕ → Option D → List (Node D) → List (Node D) → Type 0
+  Cuts size stale old new = MatchOption stale ((length old ≤ size) × (new ≡ old))
+      (λ d. (size < length old) × Shortens d old new)
+
+module _ {K D : Type 0} where
   -- the key's list is another, and the others stay; no list comes but the key's, none leaves, and
   -- none is there twice
   pub record Puts (same : K → K → Bool) (p : K) (ns : List (Node D)) (old new : List (K × List (Node D))) : Type 0 where
@@ -81,28 +107,18 @@ module _ {K D : Type 0} where
     pub stays : (q : K) → same p q ≡ false → is_some (lookup (same q) old) ≡ true → is_some (lookup (same q) new) ≡ true
     pub distinct : IsDistinct same (keys_of new)
 
-  -- no key has two chains; each chain is in the heap, and each entry is on the chain of its peer
-  pub record IsStore (same : K → K → Bool) (h : ℕ → Option (Entry K D)) (es : List (K × Chain)) : Type 0 where
-    pub chains : (p : K) (c : Chain) → lookup (same p) es ≡ Some c → IsChain (same p) h c (nodes h c)
-    pub rooted : (j : ℕ) (e : Entry K D) → h j ≡ Some e → is_some (lookup (same e.peer) es) ≡ true
-    pub distinct : IsDistinct same (keys_of es)
-
-  -- an entry of the peer's stands at the place
-  pub record IsPlaceOf (same : K → K → Bool) (h : ℕ → Option (Entry K D)) (p : K) (place : ℕ) : Type 0 where
-    pub entry : Entry K D
-    pub there : h place ≡ Some entry
-    pub owned : same p entry.peer ≡ true
-
-  -- no entry of the peer's stands at the place
-  abbrev pub IsNoPlaceOf : (K → K → Bool) → (ℕ → Option (Entry K D)) → K → ℕ → Type 0
-  IsNoPlaceOf same h p place = (e : Entry K D) → h place ≡ Some e → same p e.peer ≡ false
-
-module _ {K D : Type 0} where
-  -- each chain has the sum of its charges
-  pub record IsSummed (same : K → K → Bool) (h : ℕ → Option (Entry K (Charged D))) (es : List (K × Chain)) : Type 0 where
-    pub sums : (p : K) (c : Chain) → lookup (same p) es ≡ Some c → c.bytes ≡ bytes_of (nodes h c)
+module _ {D : Type 0} where
+  -- the heap has the chain's nodes and no other, and the chain has the sum of their charges
+  pub record IsWhole (h : ℕ → Option (Entry (Charged D))) (c : Chain) : Type 0 where
+    pub chain : IsChain h c (nodes h c)
+    pub sum : c.bytes ≡ bytes_of (nodes h c)
 
   -- the oldest digest leaves a chain that has more than that, with its charge
-  abbrev pub Trims : ℕ → (ℕ → Option (Entry K (Charged D))) → (ℕ → Option (Entry K (Charged D))) → Chain → Chain → Option (Charged D) → Type 0
+  abbrev pub Trims : ℕ → (ℕ → Option (Entry (Charged D))) → (ℕ → Option (Entry (Charged D))) → Chain → Chain → Option (Charged D) → Type 0
   Trims size old new chain next None = (chain.len ≤ size) × (new ≡ old) × (next ≡ chain)
   Trims size old new chain next (Some stale) = (size < chain.len) × Pops old new chain next (Some stale) × (next.bytes ≡ chain.bytes - stale.charge)
+
+-- the digests that are left from a link on, if there are places
+abbrev pub left_on : {D : Type 0} → ℕ → Option ℕ → Option (Heap (Charged D)) → List D
+left_on left at None = []
+left_on left at (Some places) = digests_of (walk (get places) left at)

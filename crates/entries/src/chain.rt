@@ -1,16 +1,17 @@
-//! The chains of peers in one store of places.
+//! The chain of a list among its places.
 ghost use Rattle.std.specs.Prelude.{◌≡◌, ℕ, Bool, true, Some, None, List, [], ◌∷◌, ◌++◌, ◌+◌, ◌^◌};
 ghost use Rattle.std.specs.Prelude.{MatchOption, ◌<◌, OnErr, OnOk, IfOk, IsOk, IfSome, IfNone, length};
 ghost use Rattle.std.specs.Option.{option_copied};
-ghost use Rattle.slab.specs.Slab.{get, HasRoomFor};
-ghost use Rattle.entries.specs.Linked.{IsOn, Admits, Promotes, Pushes, Pops, IsOwned};
+ghost use Rattle.entries.specs.Places.{get};
+ghost use Rattle.entries.specs.Linked.{IsOn, Admits, Promotes, Pushes, Pops};
 ghost use Rattle.entries.specs.Linked.{HasNodes, SameValues, entry_at};
 ghost use Rattle.entries.specs.Overlaid.{overlaid};
 ghost use Rattle.entries.specs.Store.{nodes, bytes_of, digests_of, Trims};
 
-use crate::entry::{Chain, Charged, Entry, Places};
+use crate::entry::{Chain, Charged, Entry};
 use crate::link::Link;
 use crate::links::{link_front, unlink};
+use crate::places::Places;
 use std::alloc::{AllocError, Global};
 use std::marker::Model;
 
@@ -20,43 +21,28 @@ pub fn promote(places: &mut Places, chain: &mut Chain, place: usize, digest: Cha
     ensures promoted { Promotes (get places.old) (get places.new) chain.old chain.new place digest }
     ensures bytes { chain.new.bytes ≡ chain.old.bytes }
 {
-    // A place is no last word: so says `capacity`.
-    let _room = places.capacity();
     unlink(places, chain, place);
     link_front(places, chain, place, digest);
 }
 
-/// Puts a digest in front of a peer's chain. Without memory all stays.
+/// Puts a digest in front of a chain. Without memory, or without a place that a link can lead to,
+/// all stays.
 pub fn push_front(
     places: &mut Places,
     chain: &mut Chain,
-    peer: usize,
     digest: Charged<usize>,
 ) -> Result<usize, AllocError>
-    requires { IsOwned (get places.old) chain.old peer }
-    ensures place { IfOk result (λ place. place ≡ places.old.vacant_key) }
+    requires { HasNodes (get places.old) chain.old }
+    ensures place { IfOk result (λ place. place ≡ places.old.vacant) }
     ensures ok { IfOk result (λ place. Pushes (get places.old)
-        (get places.new) chain.old chain.new peer place digest) }
-    ensures err { OnErr result ((chain.new ≡ chain.old) × SameValues (get places.old)
-        (get places.new)
-        × (places.new.vacant_key ≡ places.old.vacant_key)) }
+        (get places.new) chain.old chain.new place digest) }
+    ensures err { OnErr result ((chain.new ≡ chain.old) × (places.new ≡ places.old)) }
     ensures bytes { chain.new.bytes ≡ chain.old.bytes }
 {
-    if chain.len == usize::MAX {
+    if chain.len == usize::MAX || !Link::reaches(places.vacant()) {
         return Err(AllocError);
     }
-    let entry = Entry {
-        peer,
-        digest,
-        newer: Link::none(),
-        older: Link::none(),
-    };
-    let place = match places.insert(entry) {
-        Ok(place) => place,
-        Err(_) => return Err(AllocError),
-    };
-    // A place is no last word: so says `capacity`.
-    let _room = places.capacity();
+    let place = places.insert(digest)?;
     link_front(places, chain, place, digest);
     Ok(place)
 }
@@ -95,7 +81,7 @@ pub fn trim(places: &mut Places, chain: &mut Chain, size: usize) -> Option<Charg
 }
 
 /// Returns the entry that a link leads to.
-fn stands_at(places: &Places, at: Link) -> Option<&Entry<usize, Charged<usize>>>
+fn stands_at(places: &Places, at: Link) -> Option<&Entry<Charged<usize>>>
     ensures { option_copied result ≡ entry_at (get places.now) at }
 {
     match at.get() {
@@ -107,20 +93,19 @@ fn stands_at(places: &Places, at: Link) -> Option<&Entry<usize, Charged<usize>>>
 /// What is left of a walk over a chain, the newest first.
 #[derive(Drop)]
 pub struct Walk<'a> {
-    places: &'a Places,
+    places: Option<&'a Places>,
     at: Link,
     left: usize,
 }
 
 impl<'a> Model for Walk<'a> {
     ghost use Rattle.std.specs.Prelude.{ℕ, List};
-    ghost use Rattle.slab.specs.Slab.{get};
-    ghost use Rattle.entries.specs.Linked.{walk};
-    ghost use Rattle.entries.specs.Store.{digests_of};
+    ghost use Rattle.std.specs.Option.{option_copied};
+    ghost use Rattle.entries.specs.Store.{left_on};
 
     ghost Value = { List ℕ };
 
-    ghost view = { λ it. digests_of (walk (get it.places.now) it.left it.at) };
+    ghost view = { λ it. left_on it.left it.at (option_copied it.places) };
 }
 
 /// Starts a walk over a chain.
@@ -128,24 +113,24 @@ pub fn start<'a>(places: &'a Places, chain: &Chain) -> Walk<'a>
     ensures { result ≡ digests_of (nodes (get places.now) chain.now) }
 {
     Walk {
-        places,
+        places: Some(places),
         at: chain.newest,
         left: chain.len,
     }
 }
 
-/// Returns a walk with nothing left.
-pub fn at_end<'a>(places: &'a Places) -> Walk<'a>
-    ensures { result ≡ [] }
-{
-    Walk {
-        places,
-        at: Link::none(),
-        left: 0,
-    }
-}
-
 impl<'a> Walk<'a> {
+    /// Returns a walk with nothing left.
+    pub fn at_end() -> Self
+        ensures { result ≡ [] }
+    {
+        Walk {
+            places: None,
+            at: Link::none(),
+            left: 0,
+        }
+    }
+
     /// Returns the next older digest.
     pub fn next(&mut self) -> Option<usize>
         ensures { MatchOption result ((self.old ≡ []) × (self.new ≡ []))
@@ -154,7 +139,10 @@ impl<'a> Walk<'a> {
         if self.left == 0 {
             return None;
         }
-        let Some(entry) = stands_at(self.places, self.at) else {
+        let Some(places) = self.places else {
+            return None;
+        };
+        let Some(entry) = stands_at(places, self.at) else {
             return None;
         };
         self.at = entry.older;

@@ -1,6 +1,6 @@
 // SPDX-License-Identifier: Apache-2.0
-//! Lists of digests by key, the newest first, linked in one vector of places, the messages of their
-//! digests, and an ordered map in parts.
+//! Lists of digests by key, the newest first, each linked in a vector of its own, the messages of
+//! their digests, and an ordered map in parts.
 #![tactic(auto)]
 
 pub mod chain;
@@ -9,7 +9,9 @@ pub mod item;
 pub mod leading;
 pub mod link;
 pub mod links;
+pub mod list;
 pub mod parts;
+pub mod places;
 pub mod store;
 pub mod table;
 

@@ -1,15 +1,19 @@
 //! A link to a place.
-ghost use Rattle.std.specs.Prelude.{◌≡◌, ◌+◌, ◌^◌, ◌<◌, ℕ, None, Some};
+ghost use Rattle.std.specs.Prelude.{◌≡◌, ◌+◌, ◌^◌, ◌<◌, ℕ, None, Some, MatchBool, ⊤};
+ghost use Rattle.entries.specs.Places.{mark, is_mark};
 
 use std::marker::Model;
 
-/// The word of a link that leads nowhere. No vector has that many places.
-const NOWHERE: usize = usize::MAX;
+/// The word of a link that leads nowhere.
+const NOWHERE: u32 = u32::MAX;
 
-/// The place that a link leads to, or none, in one word.
+/// The word of the link that marks a free place.
+const MARK: u32 = u32::MAX - 1;
+
+/// The place that a link leads to, or none, in 32 bits.
 #[derive(Clone, Copy)]
 pub struct Link {
-    at: usize,
+    at: u32,
 }
 
 impl Model for Link {
@@ -33,10 +37,31 @@ impl Link {
 
     /// Creates a link to a place.
     pub fn to(place: usize) -> Self
-        requires { place + 1 < 2 ^ 64 }
+        requires { place + 1 < 2 ^ 32 }
         ensures { result ≡ Some place }
     {
-        Link { at: place }
+        Link { at: place as u32 }
+    }
+
+    /// Creates the link that marks a free place.
+    pub fn mark() -> Self
+        ensures { result ≡ Some mark }
+    {
+        Link { at: MARK }
+    }
+
+    /// Returns whether the link marks a free place.
+    pub fn is_mark(self) -> bool
+        ensures { result ≡ is_mark self }
+    {
+        self.at == MARK
+    }
+
+    /// Returns whether a list can have the place.
+    pub fn reaches(place: usize) -> bool
+        ensures { MatchBool result (place + 2 < 2 ^ 32) ⊤ }
+    {
+        place < MARK as usize
     }
 
     /// Returns the place that the link leads to.
@@ -46,7 +71,7 @@ impl Link {
         if self.at == NOWHERE {
             None
         } else {
-            Some(self.at)
+            Some(self.at as usize)
         }
     }
 }

@@ -1,19 +1,15 @@
 //! The lists, by number.
-ghost use Rattle.std.specs.Prelude.{◌≡◌, ◌+◌, ◌^◌, ◌<◌, ◌≤◌, ◌∷◌, ◌⊎◌, ◌++◌, true, false, is_some};
-ghost use Rattle.std.specs.Prelude.{length, OnOk, OnErr, IfOk, IsOk, MatchOption, MatchBool, Some};
-ghost use Rattle.std.specs.Prelude.{None, []};
+ghost use Rattle.std.specs.Prelude.{◌≡◌, ◌+◌, ◌^◌, ◌<◌, ◌≤◌, true, is_some, length, OnErr, IfOk};
+ghost use Rattle.std.specs.Prelude.{MatchOption, None, []};
 ghost use Rattle.std.specs.Map.{lookup};
-ghost use Rattle.slab.specs.Slab.{get, entries};
-ghost use Rattle.entries.specs.Linked.{IsApart, HasNodes};
-ghost use Rattle.entries.specs.Store.{IsStore, IsPlaceOf, IsNoPlaceOf, Puts, Evicts, Extends};
-ghost use Rattle.entries.specs.Overlaid.{overlaid};
-ghost use Rattle.entries.specs.Store.{Removes, nodes, lists_of, items_at, moved, digests_of, bytes_of};
+ghost use Rattle.entries.specs.Linked.{IsApart};
 ghost use Rattle.entries.specs.Overlaid.{same_number};
-ghost use Rattle.entries.specs.Store.{IsSummed};
+ghost use Rattle.entries.specs.Store.{Puts, Evicts, Extends, Removes, vacant_at, items_at, moved};
+ghost use Rattle.entries.specs.Store.{digests_of, bytes_of};
 
-use crate::chain::{self, Walk};
-use crate::entry::{Chain, Charged, Places};
-use crate::link::Link;
+use crate::chain::Walk;
+use crate::entry::Charged;
+use crate::list::LinkedList;
 use slab::Slab;
 use std::alloc::{AllocError, Global};
 use std::marker::Model;
@@ -21,43 +17,42 @@ use std::marker::Model;
 /// The digests of each list, the newest first. A list goes by a number.
 #[derive(Drop)]
 pub struct Entries {
-    places: Places,
-    chains: Slab<Chain>,
+    alloc: Global,
+    lists: Slab<LinkedList>,
 }
 
 impl Model for Entries {
     ghost use Rattle.std.specs.Prelude.{ℕ};
-    ghost use Rattle.slab.specs.Slab.{get, entries};
-    ghost use Rattle.entries.specs.Overlaid.{same_number};
-    ghost use Rattle.entries.specs.Store.{Listed, lists_of, IsStore, IsSummed};
+    ghost use Rattle.slab.specs.Slab.{entries};
+    ghost use Rattle.entries.specs.Store.{Listed, lists_of, vacants_of};
 
     ghost Value = { Listed ℕ ℕ };
 
     ghost view = { λ it. record {
-      lists = lists_of (get it.places) (entries it.chains);
-      vacant = it.places.vacant_key;
+      lists = lists_of (entries it.lists);
+      vacant = vacants_of (entries it.lists);
     } };
-
-    ghost invariant = { λ it. IsStore same_number (get it.places) (entries it.chains)
-        × IsSummed same_number (get it.places) (entries it.chains) };
 }
 
 impl Entries {
     /// Creates empty lists. Does not allocate.
     pub fn new(alloc: Global) -> Self
-        ensures { result ≡ record { lists = []; vacant = 0 } }
+        ensures { result ≡ record { lists = []; vacant = [] } }
     {
         Entries {
-            places: Slab::new(alloc),
-            chains: Slab::new(alloc),
+            alloc,
+            lists: Slab::new(alloc),
         }
     }
 
-    /// Returns the place of the next insert.
-    pub fn vacant(&self) -> usize
-        ensures { result ≡ self.now.vacant }
+    /// Returns the place of the next insert into the list.
+    pub fn vacant(&self, list: usize) -> usize
+        ensures { result ≡ vacant_at same_number list self.now }
     {
-        self.places.vacant_key()
+        match self.lists.get(list) {
+            Some(found) => found.vacant(),
+            None => 0,
+        }
     }
 
     /// Opens an empty list, and returns its number. On an allocation failure nothing changes.
@@ -66,18 +61,20 @@ impl Entries {
         ensures ok { IfOk result (λ list. Puts same_number list [] self.old.lists self.new.lists) }
         ensures there { IfOk result (λ list.
             is_some (lookup (same_number list) self.new.lists) ≡ true) }
-        ensures vacant { self.new.vacant ≡ self.old.vacant }
         ensures err { OnErr result (self.new ≡ self.old) }
     {
-        open(&self.places, &mut self.chains)
+        let Ok(list) = self.lists.insert(LinkedList::new(self.alloc)) else {
+            return Err(AllocError);
+        };
+        Ok(list)
     }
 
     /// Returns the sum of the charges on the list.
     pub fn bytes(&self, list: usize) -> u128
         ensures { result ≡ bytes_of (items_at same_number list self.now.lists) }
     {
-        match self.chains.get(list) {
-            Some(chain) => chain.bytes,
+        match self.lists.get(list) {
+            Some(found) => found.bytes(),
             None => 0,
         }
     }
@@ -94,11 +91,11 @@ impl Entries {
             (items_at same list self.old.lists)) self.old.lists self.new.lists }
         ensures apart { IsApart (items_at same_number list self.old.lists) }
     {
-        if is_place_of(&self.places, list, place) {
-            renew(&mut self.places, &mut self.chains, list, place, digest)
-        } else {
-            self.bytes(list)
-        }
+        let Some(found) = self.lists.get_mut(list) else {
+            return 0;
+        };
+        found.promote(place, digest);
+        found.bytes()
     }
 
     /// Puts a digest in front of the list, at the place of the next insert, and removes
@@ -119,10 +116,15 @@ impl Entries {
         ensures bytes { IfOk result (λ pushed. pushed.0
             ≡ bytes_of (items_at same_number list self.new.lists)) }
         ensures ok { IfOk result (λ pushed. Extends same_number list
-            (self.old.vacant, digest) size pushed.1 self.old.lists self.new.lists) }
+            (vacant_at same_number list self.old, digest) size pushed.1
+            self.old.lists self.new.lists) }
         ensures err { OnErr result (self.new ≡ self.old) }
     {
-        add(&mut self.places, &mut self.chains, list, digest, size)
+        let Some(found) = self.lists.get_mut(list) else {
+            unreachable!()
+        };
+        let stale = found.push(digest, size)?;
+        Ok((found.bytes(), stale))
     }
 
     /// Removes the oldest digest of the list, and returns it. Does not allocate.
@@ -132,7 +134,10 @@ impl Entries {
             ((items_at same list self.old.lists ≡ []) × (self.new.lists ≡ self.old.lists))
             (λ stale. Evicts same list stale self.old.lists self.new.lists) }
     {
-        evict(&mut self.places, &mut self.chains, list)
+        let Some(found) = self.lists.get_mut(list) else {
+            return None;
+        };
+        found.evict()
     }
 
     /// Removes the oldest digest of the list if the charges on it sum to more than `limit`, and
@@ -148,7 +153,7 @@ impl Entries {
         if self.bytes(list) <= u128::from(limit) {
             return None;
         }
-        evict(&mut self.places, &mut self.chains, list)
+        self.evict(list)
     }
 
     /// Removes an empty list. Does not allocate.
@@ -156,15 +161,15 @@ impl Entries {
         requires { items_at same_number list self.old.lists ≡ [] }
         ensures { Removes same_number list self.old.lists self.new.lists }
     {
-        close(&self.places, &mut self.chains, list);
+        self.lists.try_remove(list);
     }
 
     /// Returns how many digests the list has.
     pub fn count(&self, list: usize) -> usize
         ensures { result ≡ length (items_at same_number list self.now.lists) }
     {
-        match self.chains.get(list) {
-            Some(chain) => chain.len,
+        match self.lists.get(list) {
+            Some(found) => found.count(),
             None => 0,
         }
     }
@@ -173,153 +178,9 @@ impl Entries {
     pub fn walk(&self, list: usize) -> Walk<'_>
         ensures { result ≡ digests_of (items_at same_number list self.now.lists) }
     {
-        match self.chains.get(list) {
-            Some(chain) => chain::start(&self.places, chain),
-            None => chain::at_end(&self.places),
+        match self.lists.get(list) {
+            Some(found) => found.walk(),
+            None => Walk::at_end(),
         }
     }
-}
-
-/// Returns whether an entry of the list stands at `place`.
-fn is_place_of(places: &Places, list: usize, place: usize) -> bool
-    ensures { MatchBool result (IsPlaceOf same_number (get places.now) list place)
-        (IsNoPlaceOf same_number (get places.now) list place) }
-{
-    match places.get(place) {
-        Some(entry) => list.cmp(&entry.peer).is_eq(),
-        None => false,
-    }
-}
-
-/// Moves a place to the front of its list, with another digest and charge. Returns the sum of the
-/// charges on the list.
-fn renew(
-    places: &mut Places,
-    chains: &mut Slab<Chain>,
-    list: usize,
-    place: usize,
-    digest: Charged<usize>,
-) -> u128
-    requires store { IsStore same_number (get places.old) (entries chains.old) }
-    requires summed { IsSummed same_number (get places.old) (entries chains.old) }
-    requires room { bytes_of (items_at same_number list (lists_of (get places.old)
-        (entries chains.old))) + digest.charge < 2 ^ 128 }
-    requires there { IsPlaceOf same_number (get places.old) list place }
-    ensures store { IsStore same_number (get places.new) (entries chains.new) }
-    ensures lists { let same = same_number in
-        let old = lists_of (get places.old) (entries chains.old) in
-        Puts same list (moved place digest (items_at same list old)) old (lists_of
-        (get places.new) (entries chains.new)) }
-    ensures summed { IsSummed same_number (get places.new) (entries chains.new) }
-    ensures bytes { result ≡ bytes_of (items_at same_number list (lists_of
-        (get places.new) (entries chains.new))) }
-{
-    match chains.get_mut(list) {
-        Some(chain) => {
-            let was = u128::from(places[place].digest.charge);
-            chain::promote(places, chain, place, digest);
-            let bytes = chain.bytes - was + u128::from(digest.charge);
-            chain.bytes = bytes;
-            bytes
-        }
-        None => 0,
-    }
-}
-
-/// Takes the oldest digest of a list, if there is one.
-fn evict(places: &mut Places, chains: &mut Slab<Chain>, list: usize) -> Option<Charged<usize>>
-    requires store { IsStore same_number (get places.old) (entries chains.old) }
-    requires summed { IsSummed same_number (get places.old) (entries chains.old) }
-    ensures summed { IsSummed same_number (get places.new) (entries chains.new) }
-    ensures store { IsStore same_number (get places.new) (entries chains.new) }
-    ensures lists { let old = lists_of (get places.old) (entries chains.old) in
-        let new = lists_of (get places.new) (entries chains.new) in
-        MatchOption result
-        ((items_at same_number list old ≡ []) × (new ≡ old))
-        (λ stale. Evicts same_number list stale old new) }
-{
-    match chains.get_mut(list) {
-        Some(chain) => chain::trim(places, chain, 0),
-        None => None,
-    }
-}
-
-/// Puts a digest in front of a list, and takes out the oldest if there are then more than
-/// `size`. Returns the sum of the charges on the list, and what was taken out.
-fn add(
-    places: &mut Places,
-    chains: &mut Slab<Chain>,
-    list: usize,
-    digest: Charged<usize>,
-    size: usize,
-) -> Result<(u128, Option<Charged<usize>>), AllocError>
-    requires store { IsStore same_number (get places.old) (entries chains.old) }
-    requires summed { IsSummed same_number (get places.old) (entries chains.old) }
-    requires room { bytes_of (items_at same_number list (lists_of (get places.old)
-        (entries chains.old))) + digest.charge < 2 ^ 128 }
-    requires there { is_some (lookup (same_number list) (entries chains.old)) ≡ true }
-    requires some { 0 < size }
-    ensures store { IsStore same_number (get places.new) (entries chains.new) }
-    ensures summed { IsSummed same_number (get places.new) (entries chains.new) }
-    ensures bytes { IfOk result (λ pushed. pushed.0 ≡ bytes_of (items_at same_number list
-        (lists_of (get places.new) (entries chains.new)))) }
-    ensures ok { IfOk result (λ pushed. Extends same_number list
-        (places.old.vacant_key, digest) size pushed.1
-        (lists_of (get places.old) (entries chains.old))
-        (lists_of (get places.new) (entries chains.new))) }
-    ensures err { OnErr result ((lists_of (get places.new) (entries chains.new) ≡ lists_of
-        (get places.old) (entries chains.old))
-        × (places.new.vacant_key ≡ places.old.vacant_key)) }
-{
-    match chains.get_mut(list) {
-        Some(chain) => {
-            chain::push_front(places, chain, list, digest)?;
-            chain.bytes += u128::from(digest.charge);
-            let stale = chain::trim(places, chain, size);
-            Ok((chain.bytes, stale))
-        }
-        None => unreachable!(),
-    }
-}
-
-/// Opens an empty list.
-fn open(places: &Places, chains: &mut Slab<Chain>) -> Result<usize, AllocError>
-    requires store { IsStore same_number (get places.now) (entries chains.old) }
-    requires summed { IsSummed same_number (get places.now) (entries chains.old) }
-    ensures store { IsStore same_number (get places.now) (entries chains.new) }
-    ensures summed { IsSummed same_number (get places.now) (entries chains.new) }
-    ensures fresh { IfOk result (λ list. lookup (same_number list)
-        (lists_of (get places.now) (entries chains.old)) ≡ None) }
-    ensures ok { IfOk result (λ list. Puts same_number list [] (lists_of (get places.now)
-        (entries chains.old)) (lists_of (get places.now) (entries chains.new))) }
-    ensures there { IfOk result (λ list. is_some (lookup (same_number list)
-        (lists_of (get places.now) (entries chains.new))) ≡ true) }
-    ensures err { OnErr result (entries chains.new ≡ entries chains.old) }
-{
-    let nowhere = Link::none();
-    let chain = Chain {
-        newest: nowhere,
-        oldest: nowhere,
-        len: 0,
-        bytes: 0,
-    };
-    match chains.insert(chain) {
-        Ok(list) => Ok(list),
-        Err(_) => Err(AllocError),
-    }
-}
-
-/// Removes an empty list.
-fn close(places: &Places, chains: &mut Slab<Chain>, list: usize)
-    requires store { IsStore same_number (get places.now) (entries chains.old) }
-    requires summed { IsSummed same_number (get places.now) (entries chains.old) }
-    requires empty { items_at same_number list (lists_of (get places.now) (entries chains.old))
-        ≡ [] }
-    ensures store { IsStore same_number (get places.now) (entries chains.new) }
-    ensures summed { IsSummed same_number (get places.now) (entries chains.new) }
-    ensures lists { Removes same_number list
-        (lists_of (get places.now) (entries chains.old)) (lists_of
-        (get places.now) (entries chains.new)) }
-{
-    chains.try_remove(list);
 }

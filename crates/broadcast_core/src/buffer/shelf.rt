@@ -5,7 +5,7 @@ ghost use Rattle.std.specs.List.{IsDistinct};
 ghost use Rattle.std.specs.Map.{lookup, keys_of};
 ghost use Rattle.std.specs.Ordering.{eq_by_cmp};
 ghost use Rattle.entries.specs.Overlaid.{same_number, overlaid};
-ghost use Rattle.entries.specs.Store.{items_at as nodes_at, bytes_of as sum_of, Extends};
+ghost use Rattle.entries.specs.Store.{items_at as nodes_at, bytes_of as sum_of, vacant_at, Extends};
 ghost use Rattle.entries.specs.Table.{place_at, items_of, messages_of, IsTabled, KeepsNames, Takes};
 ghost use Rattle.broadcast_core.specs.Content.{same_charged, without, at_charge, digests_of, bytes_of, among, items_at, outcome_of};
 ghost use Rattle.broadcast_core.specs.Numbered.{same_listed};
@@ -199,7 +199,7 @@ impl<M: Digestible> Shelf<M> {
         ensures succeeds_on_duplicate { among (eq_by_cmp M.Digest.cmp) message.now.digest
             (digests_of (items_at same_number list self.old.lists)) ≡ true → IsOk result }
     {
-        let found = self.table.insert(message, list, self.lists.vacant())?;
+        let found = self.table.insert(message, list, self.lists.vacant(list))?;
         let charged = Charged {
             digest: found.item,
             charge,
@@ -332,7 +332,8 @@ fn push<M: Digestible>(
     requires tabled { IsTabled M.Digest.cmp (λ m. m.digest) table.old }
     ensures bytes { IfOk result (λ bytes. bytes
         ≡ sum_of (nodes_at same_number list lists.new.lists)) }
-    ensures ok { OnOk result (Pushes M.Digest.cmp list (lists.old.vacant, charged) size
+    ensures ok { let place = vacant_at same_number list lists.old in
+        OnOk result (Pushes M.Digest.cmp list (place, charged) size
         lists.old.lists lists.new.lists table.old table.new) }
     ensures stays { OnErr result (lists.new ≡ lists.old) }
     ensures err { OnErr result (Takes M.Digest.cmp (λ m. m.digest) charged.digest list
@@ -371,7 +372,8 @@ fn push_with_room<M: Digestible>(
     requires room { sum_of (nodes_at same_number list lists.old.lists) + charged.charge < 2 ^ 128 }
     ensures bytes { IfOk result (λ pushed. pushed.0
         ≡ sum_of (nodes_at same_number list lists.new.lists)) }
-    ensures ok { IfOk result (λ pushed. Extends same_number list (lists.old.vacant, charged) size
+    ensures ok { let place = vacant_at same_number list lists.old in
+        IfOk result (λ pushed. Extends same_number list (place, charged) size
         pushed.1 lists.old.lists lists.new.lists) }
     ensures err { OnErr result (lists.new ≡ lists.old) }
     ensures left { Widens left.old left.new }
