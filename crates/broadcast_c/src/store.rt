@@ -114,7 +114,7 @@ impl Store {
     pub fn handle(&self, digest: &Digest) -> Option<u64>
         ensures { result ≡ handle_at self.now.cache.core digest.now }
     {
-        match self.cache.core().get(digest) {
+        match self.cache.get(digest) {
             Some(message) => Some(message.inner().handle),
             None => None,
         }
@@ -146,15 +146,14 @@ impl Store {
         ensures awaited { result.1 ≡ length self.now.cache.core.waiters }
         ensures one_each { IsOneEach self.now.cache.core }
     {
-        let core = self.cache.core();
-        (core.cached_len(), core.awaited())
+        (self.cache.cached_len(), self.cache.awaited())
     }
 
     /// Returns whether the key is primary.
     pub fn is_primary(&self, peer: &Name) -> bool
         ensures { result ≡ has_primary same_bytes self.now.cache.core peer.now }
     {
-        self.cache.core().primary().position(peer).is_some()
+        self.cache.primary().position(peer).is_some()
     }
 
     /// Drops the waiters with these tickets. Returns how many, saturating at `u64::MAX`.
@@ -168,7 +167,7 @@ impl Store {
         ensures served { self.new.served ≡ self.old.served }
     {
         // Cited: no digest has two lists of waiters.
-        self.cache.core().awaited();
+        self.cache.awaited();
         self.cache.cleanup(tickets)
     }
 

@@ -7,7 +7,7 @@ use Rattle.std.proofs.lemmas.Map.Entries.{length-keys_of}
 use Rattle.std.proofs.lemmas.Map.Made.{is_some-lookup, length-le_from_is_member}
 use Rattle.entries.specs.declared.entry.Charged.{Charged}
 use Rattle.broadcast_core.specs.Content.{Same, among, items_at, digests_of}
-use Rattle.broadcast_core.specs.Stored.{Stored, IsCore}
+use Rattle.broadcast_core.specs.Stored.{Stored, IsCached}
 use Rattle.broadcast_core.proofs.Distinct.{list_any-append}
 use Rattle.broadcast_core.proofs.Staying.{length-names}
 use Rattle.broadcast_core.proofs.Taking.{stored-listed}
@@ -28,8 +28,8 @@ module _ {P D : Type 0} (same : Same P D) (lists : List (P × List (Charged D)))
       list_any-append (same.digest d) (digests_of (items_at same.key p lists)) (listed ps) ∙ ap (λ b. among same.digest d (digests_of (items_at same.key p lists)) || b) (among-listed d ps)
 
 -- the cached digests differ, and each is on the list of a primary key
-pub length-cached : {P M D W : Type 0} {same : Same P D} (key_laws : IsEquivalence same.key) (laws : IsEquivalence same.digest) {waiters : List (D × List W)}
-    (size budget : ℕ) (primary : List P) (stored : Stored P M D) → IsCore same size budget primary stored waiters → IsDistinct same.digest (keys_of stored.messages)
+pub length-cached : {P M D : Type 0} {same : Same P D} (key_laws : IsEquivalence same.key) (laws : IsEquivalence same.digest)
+    (size budget : ℕ) (primary : List P) (stored : Stored P M D) → IsCached same size budget primary stored → IsDistinct same.digest (keys_of stored.messages)
     → length stored.messages ≤ length primary * size
 length-cached {same = same} key_laws laws size budget primary stored core distinct =
     let fewer = length-le_from_is_member laws (keys_of stored.messages) (listed same stored.lists primary) distinct

@@ -7,7 +7,7 @@ use Rattle.entries.specs.declared.entry.Charged.{Charged}
 use Rattle.broadcast_core.specs.Carried.{Carried}
 use Rattle.broadcast_core.specs.Content.{Same, affordable, at_charge, items_at, outcome_of}
 use Rattle.broadcast_core.specs.Fronted.{fronted}
-use Rattle.broadcast_core.specs.Stored.{Stored, Stores, StoresIf, IsCore, has_digest, is_stored}
+use Rattle.broadcast_core.specs.Stored.{Stored, Stores, StoresIf, IsCached, has_digest, is_stored}
 use Rattle.broadcast_core.specs.declared.outcome.Outcome.{Outcome}
 use Rattle.broadcast_core.specs.declared.outcome.Outcome.TheVariants.{Inserted, Duplicate, Ineligible, Oversize}
 use Rattle.broadcast_core.proofs.Distinct.{by_test}
@@ -53,7 +53,7 @@ module _ {P M D : Type 0} (same : Same P D) (key_laws : IsEquivalence same.key) 
       let here : same.digest x.digest c.digest ≡ true = ap (same.digest x.digest) one ∙ laws.refl x.digest in
       rw (fits, here) refl
 
-  module _ {W : Type 0} {size : ℕ} {w0 : List (D × List W)} (core : IsCore same size budget primary old w0) where
+  module _ {size : ℕ} (core : IsCached same size budget primary old) where
     -- a digest of the list is cached
     listed-cached : has_digest same.digest x.digest (items_at same.key p old.lists) ≡ true → is_there ≡ true
     listed-cached h = core.messages x.digest ∙ stored-at same p x.digest old.lists h

@@ -23,8 +23,8 @@ use Rattle.entries.proofs.Tabled.{by_option, no_some, lookup-name, name_there}
 use Rattle.broadcast_core.specs.Carried.{Carried}
 use Rattle.broadcast_core.specs.Content.{Content, Same, at_charge, items_at}
 use Rattle.broadcast_core.specs.Fronted.{within}
-use Rattle.broadcast_core.specs.Stored.{Stored, Stores, Cuts, has_digest, is_stored}
-use Rattle.broadcast_core.specs.Reports.{HaveLeft, Reported, Reports}
+use Rattle.broadcast_core.specs.Stored.{Stored, Shelf, Sheds, Stores, Cuts, has_digest, is_stored}
+use Rattle.broadcast_core.specs.Reports.{HaveLeft, Reports}
 use Rattle.broadcast_core.specs.Left.{Left, HasRoom, Widens, Adds}
 use Rattle.broadcast_core.specs.Indexed.{IsIndexed, Pushes, digest_lists}
 use Rattle.broadcast_core.proofs.Distinct.{by_test}
@@ -51,20 +51,20 @@ remove-length test (e ∷ es) there = by (test e.0) there (remove-length test es
 
 module _ {M D : Type 0} (same : D → D → Bool) where
   -- nothing leaves where nothing changes
-  pub Adds-none : (m : List (D × Carried M D)) (a b : Left (Carried M D)) → b.items ≡ a.items → Adds same m m a b
-  Adds-none m a b is = record { gone = []; added = is ∙ by a.items; each = λ d. sym (none-left (lookup (same d) m)) }
+  pub Adds-none : (m : List (D × Carried M D)) (a b : Option (List (Carried M D))) → b ≡ a → Adds same m m a b
+  Adds-none m a b is = record { gone = []; added = is ∙ by a; each = λ d. sym (none-left (lookup (same d) m)) }
     where
       by : (o : Option (List (Carried M D))) → o ≡ option_map (λ xs. xs ++ []) o
       by None = refl
       by (Some xs) = ap Some (sym (append-nil xs))
 
   -- what leaves in two steps, of which the second puts nothing in
-  pub Adds-then : (old mid new : List (D × Carried M D)) (a b c : Left (Carried M D)) → Adds same old mid a b → Adds same mid new b c
+  pub Adds-then : (old mid new : List (D × Carried M D)) (a b c : Option (List (Carried M D))) → Adds same old mid a b → Adds same mid new b c
       → ((d : D) (y : Carried M D) → lookup (same d) mid ≡ Some y → lookup (same d) new ≡ None → lookup (same d) old ≡ Some y)
       → ((d : D) → is_some (lookup (same d) new) ≡ true → is_some (lookup (same d) mid) ≡ true) → Adds same old new a c
   Adds-then old mid new a b c first last was kept = record {
     gone = first.gone ++ last.gone;
-    added = last.added ∙ ap (option_map (λ xs. xs ++ last.gone)) first.added ∙ joined a.items;
+    added = last.added ∙ ap (option_map (λ xs. xs ++ last.gone)) first.added ∙ joined a;
     each = λ d. filter-append (λ (x : Carried M D). same d x.digest) first.gone last.gone
         ∙ ap (λ (xs : List (Carried M D)). xs ++ filter (λ (x : Carried M D). same d x.digest) last.gone) (first.each d) ∙ ap (λ (xs : List (Carried M D)). option_to_list (cond (is_some (lookup (same d) mid)) None (lookup (same d) old)) ++ xs) (last.each d)
         ∙ by (lookup (same d) old) (lookup (same d) mid) (lookup (same d) new) (was d) (kept d);
@@ -81,11 +81,15 @@ module _ {M D : Type 0} (same : D → D → Bool) where
       by o (Some y) None was kept = ap option_to_list (sym (was y refl refl))
       by o (Some y) (Some z) was kept = refl
 
-  pub Adds-fewer : (old mid new : List (D × Carried M D)) (a b c : Left (Carried M D)) → Adds same old mid a b → Adds same mid new b c
+  pub Adds-fewer : (old mid new : List (D × Carried M D)) (a b c : Option (List (Carried M D))) → Adds same old mid a b → Adds same mid new b c
       → ((d : D) (y : Carried M D) → lookup (same d) mid ≡ Some y → lookup (same d) old ≡ Some y)
       → ((d : D) (y : Carried M D) → lookup (same d) new ≡ Some y → lookup (same d) mid ≡ Some y) → Adds same old new a c
   Adds-fewer old mid new a b c first last was kept = Adds-then old mid new a b c first last (λ d y h no. was d y h)
       (λ d there. by_option (lookup (same d) new) (λ no. let bad : false ≡ true = sym (ap is_some no) ∙ there in absurd (cc)) (λ y is. ap is_some (kept d y is)))
+
+-- nothing leaves a shelf that stays
+pub Sheds-none : {P M D : Type 0} (same : D → D → Bool) (s : Shelf P M D) → Sheds same s s
+Sheds-none same s = record { deque_size = refl; byte_budget = refl; left = Adds-none same s.stored.messages s.left s.left refl }
 
 -- more room is room
 pub room-wider : {X : Type 0} (n : ℕ) (a b : Left X) → Widens a b → HasRoom n a → HasRoom n b
@@ -202,8 +206,8 @@ module _ {M D : Type 0} {cmp : D → D → Ordering} (order : IsTotalOrder cmp) 
       (λ it is. named-parts it.message.digest (ap (option_map (λ i. i.message.digest)) is) it is)
 
 -- a message that is put in takes none away
-pub Adds-joined : {P M D : Type 0} {same : D → D → Bool} {key : P → P → Bool} {cmp : D → D → Ordering} {is_clone : Carried M D → Carried M D → Type 0} (x : Carried M D) (p : P) (place : ℕ) (old new : List (D × Placed P (Carried M D))) (a b : Left (Carried M D))
-    → Joins same key cmp is_clone x.digest x p place old new → b.items ≡ a.items → Adds same (messages_of old) (messages_of new) a b
+pub Adds-joined : {P M D : Type 0} {same : D → D → Bool} {key : P → P → Bool} {cmp : D → D → Ordering} {is_clone : Carried M D → Carried M D → Type 0} (x : Carried M D) (p : P) (place : ℕ) (old new : List (D × Placed P (Carried M D))) (a b : Option (List (Carried M D)))
+    → Joins same key cmp is_clone x.digest x p place old new → b ≡ a → Adds same (messages_of old) (messages_of new) a b
 unfolding Adds-none
 Adds-joined {M = M} {D = D} {same = same} x p place old new a b joins is = by_option (lookup (same x.digest) old)
     (λ none. let c = joins.cached none in more (λ e. c.copy) (λ e. same x.digest e) (λ e. c.finds e))
@@ -235,7 +239,7 @@ pushes-fewer {M = M} {D = D} {cmp = cmp} {p = p} old new pushes e y there = by p
 
 module _ {M D : Type 0} {same : D → D → Bool} (laws : IsEquivalence same) where
   -- a message is put in, which stays, and others may leave
-  pub Adds-entered : (x : Carried M D) (old mid new : List (D × Carried M D)) (a b c : Left (Carried M D)) → Adds same old mid a b → Adds same mid new b c
+  pub Adds-entered : (x : Carried M D) (old mid new : List (D × Carried M D)) (a b c : Option (List (Carried M D))) → Adds same old mid a b → Adds same mid new b c
       → ((d : D) (y : Carried M D) → lookup (same d) mid ≡ Some y → (lookup (same d) old ≡ Some y) ⊎ (same x.digest d ≡ true))
       → ((d : D) (y : Carried M D) → lookup (same d) new ≡ Some y → lookup (same d) mid ≡ Some y) → is_some (lookup (same x.digest) new) ≡ true → Adds same old new a c
   Adds-entered x old mid new a b c first last origin fewer there = Adds-then same old mid new a b c first last
@@ -258,7 +262,7 @@ module _ {P M D : Type 0} (same : Same P D) (key_laws : IsEquivalence same.key) 
       first (suc k) h = rw (laws.refl x.digest) refl
 
   -- a taking, and a cut that leaves its digest on the list
-  module _ (p : P) (x : Carried M D) (charge size budget : ℕ) (cs : List (Charged D)) (old mid new : Stored P M D) (a b c : Left (Carried M D)) where
+  module _ (p : P) (x : Carried M D) (charge size budget : ℕ) (cs : List (Charged D)) (old mid new : Stored P M D) (a b c : Option (List (Carried M D))) where
     abbrev whole : List (Charged D)
     whole = take size (at_charge x.digest charge ∷ cs)
 
@@ -291,16 +295,16 @@ module _ {P M D : Type 0} (same : Same P D) (key_laws : IsEquivalence same.key) 
         (still-there stores cuts some fits there)
 
 -- what is kept is said of all that left
-pub Reports-added : {P M D W : Type 0} (same : Same P D) (old new : Content P M D W) (a b : Left (Carried M D)) → is_some a.items ≡ true → Adds same.digest old.cached new.cached a b
-    → Reports same (record { core = old; left = unwrap_or a.items [] }) (record { core = new; left = unwrap_or b.items [] })
-Reports-added {M = M} {D = D} same old new a b on adds = record { gone = adds.gone; added = by a.items b.items on adds.added; each = adds.each }
+pub Reports-added : {P M D W : Type 0} (same : Same P D) (old new : Content P M D W) (a b : Option (List (Carried M D))) → is_some a ≡ true → Adds same.digest old.cached new.cached a b
+    → Reports same (record { core = old; left = unwrap_or a [] }) (record { core = new; left = unwrap_or b [] })
+Reports-added {M = M} {D = D} same old new a b on adds = record { gone = adds.gone; added = by a b on adds.added; each = adds.each }
   where
     by : (o p : Option (List (Carried M D))) → is_some o ≡ true → p ≡ option_map (λ xs. xs ++ adds.gone) o → unwrap_or p [] ≡ unwrap_or o [] ++ adds.gone
     by None p h is = absurd cc
     by (Some xs) p h is = ap (λ q. unwrap_or q []) is
 
-pub still-on : {M D : Type 0} {same : D → D → Bool} {old new : List (D × Carried M D)} (a b : Left (Carried M D)) → is_some a.items ≡ true → Adds same old new a b → is_some b.items ≡ true
-still-on {M = M} {D = D} a b on adds = by a.items b.items on adds.added
+pub still-on : {M D : Type 0} {same : D → D → Bool} {old new : List (D × Carried M D)} (a b : Option (List (Carried M D))) → is_some a ≡ true → Adds same old new a b → is_some b ≡ true
+still-on {M = M} {D = D} a b on adds = by a b on adds.added
   where
     by : (o p : Option (List (Carried M D))) → is_some o ≡ true → p ≡ option_map (λ xs. xs ++ adds.gone) o → is_some p ≡ true
     by None p h is = absurd cc
@@ -313,32 +317,13 @@ none-gone {same = same} laws m (x ∷ xs) each =
     let some : filter (λ z. same x.digest z.digest) (x ∷ xs) ≡ x ∷ filter (λ z. same x.digest z.digest) xs = rw (laws.refl x.digest) refl in
     let no : x ∷ filter (λ z. same x.digest z.digest) xs ≡ [] = sym some ∙ each x.digest ∙ none-left (lookup (same x.digest) m) in absurd (cc)
 
--- what is reported stays
-abbrev pub Same-reported : {P M D W : Type 0} → Content P M D W → Content P M D W → Left (Carried M D) → Left (Carried M D) → Type 0
-Same-reported {P = P} {M = M} {D = D} {W = W} old new a b = reported new b ≡ reported old a
-  where
-    reported : Content P M D W → Left (Carried M D) → Reported P M D W
-    reported core left = record { core = core; left = unwrap_or left.items [] }
-
-pub refused-stays : {A E P M D W : Type 0} {same : D → D → Bool} (laws : IsEquivalence same) (r : Result A E) (old new : Content P M D W) (a b : Left (Carried M D)) → OnErr r (new ≡ old) → Adds same old.cached new.cached a b
-    → OnErr r (Same-reported old new a b)
-refused-stays laws (Ok x) old new a b stays adds = tt
-refused-stays {M = M} {D = D} {same = same} laws (Err e) old new a b stays adds =
-    let none = none-gone laws old.cached adds.gone (subst (λ (c : Content _ _ _ _). HaveLeft same old.cached c.cached adds.gone) stays adds.each) in
-    rw (stays, adds.added, none) (ap (λ q. record { core = old; left = unwrap_or q [] }) (nothing a.items))
-  where
-    nothing : (o : Option (List (Carried M D))) → option_map (λ xs. xs ++ []) o ≡ o
-    nothing None = refl
-    nothing (Some xs) = ap Some (append-nil xs)
-
 -- one that is handed out
-pub record Popped {X : Type 0} (n : ℕ) (out : Option X) (a b : Left X) : Type 0 where
-  pub left : unwrap_or a.items [] ≡ unwrap_or b.items [] ++ option_to_list out
-  pub on : is_some b.items ≡ true
-  pub room : HasRoom n b
+pub record Popped {X : Type 0} (out : Option X) (a b : Option (List X)) : Type 0 where
+  pub left : unwrap_or a [] ≡ unwrap_or b [] ++ option_to_list out
+  pub on : is_some b ≡ true
 
-pub popped-is : {X : Type 0} (n : ℕ) (out : Option X) (a b : Left X) → is_some a.items ≡ true → HasRoom n a → a.items ≡ option_map (λ xs. xs ++ option_to_list out) b.items → b.room ≡ a.room → Popped n out a b
-popped-is {X = X} n out a b on has is same_room = record { left = left a.items b.items on is; on = there a.items b.items on is; room = room a.items b.items has is }
+pub popped-is : {X : Type 0} (out : Option X) (a b : Option (List X)) → is_some a ≡ true → a ≡ option_map (λ xs. xs ++ option_to_list out) b → Popped out a b
+popped-is {X = X} out a b on is = record { left = left a b on is; on = there a b on is }
   where
     left : (o p : Option (List X)) → is_some o ≡ true → o ≡ option_map (λ xs. xs ++ option_to_list out) p → unwrap_or o [] ≡ unwrap_or p [] ++ option_to_list out
     left o None h is = let no : false ≡ true = sym (ap is_some is) ∙ h in absurd (cc)
@@ -348,6 +333,10 @@ popped-is {X = X} n out a b on has is same_room = record { left = left a.items b
     there o None h is = sym (ap is_some is) ∙ h
     there o (Some xs) h is = refl
 
+-- where one is handed out there is still room
+pub room-popped : {X : Type 0} (n : ℕ) (out : Option X) (a b : Left X) → HasRoom n a → a.items ≡ option_map (λ xs. xs ++ option_to_list out) b.items → b.room ≡ a.room → HasRoom n b
+room-popped {X = X} n out a b has is same_room = room a.items b.items has is
+  where
     room : (o p : Option (List X)) → IfSome o (λ xs. length xs + n ≤ a.room) → o ≡ option_map (λ xs. xs ++ option_to_list out) p → IfSome p (λ xs. length xs + n ≤ b.room)
     room o None h is = tt
     room None (Some ys) h is = absurd cc
@@ -358,3 +347,14 @@ popped-is {X = X} n out a b on has is same_room = record { left = left a.items b
 pub nothing-kept : {X : Type 0} (o : Option (List X)) → IfSome o (λ xs. xs ≡ []) → unwrap_or o [] ≡ []
 nothing-kept None is = refl
 nothing-kept (Some xs) is = is
+
+-- there is room for none
+pub room-none : {X : Type 0} (a : Left X) (b : Bool) → a.items ≡ cond b (Some []) None → HasRoom 0 a
+room-none {X = X} a b is = by a.items b is
+  where
+    by : (o : Option (List X)) (c : Bool) → o ≡ cond c (Some []) None → IfSome o (λ xs. length xs + 0 ≤ a.room)
+    by None c h = tt
+    by (Some xs) false h = absurd cc
+    by (Some xs) true h =
+        let none : xs ≡ [] = cc in
+        rw none (omega arith)

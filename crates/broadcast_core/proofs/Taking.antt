@@ -1,5 +1,5 @@
 -- What the changes of a cache make of a core's content.
-use Rattle.std.proofs.Common.{◌≡◌, ℕ, Bool, true, false, not, ◌&&◌, ◌||◌, cond, ◌⊎◌, inl, inr, List, [], ◌∷◌, take, Option, Some, None, refl, sym, ap, ◌∙◌, arith}
+use Rattle.std.proofs.Common.{◌≡◌, ℕ, Bool, true, false, not, ◌&&◌, ◌||◌, cond, ◌⊎◌, inl, inr, List, [], ◌∷◌, take, Option, Some, None, Result, Ok, Err, OnOk, OnErr, refl, sym, ap, subst, ◌∙◌, arith}
 use Rattle.std.specs.Prelude.{is_some, nat_le, unwrap_or, MatchBool}
 use Rattle.std.specs.List.{list_any, AllByRecursion, IsDistinct}
 use Rattle.std.specs.Map.{lookup, keys_of}
@@ -10,7 +10,7 @@ use Rattle.broadcast_core.specs.Carried.{Carried}
 use Rattle.broadcast_core.specs.Content.{Content, Same, affordable, at_charge, among, items_at, digests_of, same_charged, without}
 use Rattle.broadcast_core.specs.Fronted.{fronted}
 use Rattle.broadcast_core.specs.Changes.{Takes, TakesPeers}
-use Rattle.broadcast_core.specs.Stored.{Stored, Stores, StoresIf, Drops, IsCore, has_digest, is_stored}
+use Rattle.broadcast_core.specs.Stored.{Stored, Stores, StoresIf, Drops, IsCached, Unawaited, has_digest, is_stored}
 use Rattle.broadcast_core.proofs.Distinct.{by_test, same_truth, or_right, among-equal, among-without_other, list_any-same}
 use Rattle.broadcast_core.proofs.Caching.{stored-at, holder}
 use Rattle.broadcast_core.proofs.Indexing.{nodes-equal}
@@ -48,13 +48,21 @@ module _ {P D : Type 0} (same : Same P D) (laws : IsEquivalence same.key) where
       (λ t. from-primary d lists qs (sym (ap (λ b. b || list_any (λ r. has_digest same.digest d (items_at same.key r lists)) qs) t) ∙ h))
 
   -- a digest is on some deque exactly where it is on the list of a primary key
-  pub stored-listed : {M W : Type 0} {waiters : List (D × List W)} (size budget : ℕ) (primary : List P) (stored : Stored P M D) → IsCore same size budget primary stored waiters → (d : D)
+  pub stored-listed : {M : Type 0} (size budget : ℕ) (primary : List P) (stored : Stored P M D) → IsCached same size budget primary stored → (d : D)
       → is_stored same d stored.lists ≡ list_any (λ q. among same.digest d (digests_of (items_at same.key q stored.lists))) primary
   stored-listed size budget primary stored core d = same_truth (is_stored same d stored.lists) (list_any (λ q. has_digest same.digest d (items_at same.key q stored.lists)) primary)
       (λ h. let r = holder same laws d stored.lists core.distinct h in on-primary r.key d stored.lists primary r.listed (core.primary_only r.key r.there))
       (λ h. from-primary d stored.lists primary h)
       ∙ list_any-same (λ q. has_digest same.digest d (items_at same.key q stored.lists)) (λ q. among same.digest d (digests_of (items_at same.key q stored.lists))) primary
       (λ q. sym (among-names same.digest d (items_at same.key q stored.lists)))
+
+pub on_err : {A E P Q : Type 0} (r : Result A E) → (P → Q) → OnErr r P → OnErr r Q
+on_err (Ok a) f h = tt
+on_err (Err e) f h = f h
+
+pub on_false : {P Q : Type 0} (A : Type 0) (b : Bool) → (P → Q) → MatchBool b A P → MatchBool b A Q
+on_false A true f h = h
+on_false A false f h = f h
 
 none_from_no_some : {X : Type 0} (o : Option X) → is_some o ≡ false → o ≡ None
 none_from_no_some None h = refl
@@ -70,9 +78,8 @@ pub record Keeps {P M D : Type 0} (same : Same P D) (peers : List P) (old new : 
   pub distinct : IsDistinct same.key (keys_of new.lists)
   pub messages : (d : D) → lookup (same.digest d) new.messages ≡ cond (is_stored same d new.lists) (lookup (same.digest d) old.messages) None
 
-module _ {P M D W : Type 0} (same : Same P D) (key_laws : IsEquivalence same.key) (size budget : ℕ) where
-  module _ (laws : IsEquivalence same.digest) (p : P) (x : Carried M D) (primary : List P) (old new : Stored P M D) (w0 w1 : List (D × List W))
-      (core : IsCore same size budget primary old w0) (waits : (d : D) → items_at same.digest d w1 ≡ cond (same.digest x.digest d) [] (items_at same.digest d w0)) where
+module _ {P M D : Type 0} (same : Same P D) (key_laws : IsEquivalence same.key) (size budget : ℕ) where
+  module _ (laws : IsEquivalence same.digest) (p : P) (x : Carried M D) (primary : List P) (old new : Stored P M D) (core : IsCached same size budget primary old) where
     module _ (c : Charged D) (one : c.digest ≡ x.digest) (eligible : list_any (same.key p) primary ≡ true)
         (stores : Stores same p x (fronted same.digest size budget c (items_at same.key p old.lists)) old new) where
       abbrev eq : Charged D → Charged D → Bool
@@ -100,8 +107,8 @@ module _ {P M D W : Type 0} (same : Same P D) (key_laws : IsEquivalence same.key
           (λ k. absurd (let none : false ≡ true = sym (not-put d other k) ∙ sym (ap (has_digest same.digest d) (stores.put.lists r.key ∙ rw t refl)) ∙ r.listed in cc))))
           (λ t. stored-at same r.key d old.lists (sym (ap (has_digest same.digest d) (stores.put.lists r.key ∙ rw t refl)) ∙ r.listed))
 
-      pub IsCore-stored : IsCore same size budget primary new w1
-      IsCore-stored = record {
+      pub IsCached-stored : IsCached same size budget primary new
+      IsCached-stored = record {
         bounded = λ q. by_test (same.key p q)
             (λ h. rw (stores.put.lists q, h) (omega (arith, length-within budget (take size put), length-take size put)))
             (λ h. rw (stores.put.lists q, h) (core.bounded q));
@@ -118,93 +125,97 @@ module _ {P M D W : Type 0} (same : Same P D) (key_laws : IsEquivalence same.key
             (λ k. rw (stores.messages d, h, k) (core.messages d ∙ k))
             (λ k. rw (stores.messages d, h, k) refl))
             (λ h. rw (stores.messages d, h) refl);
-        unawaited = λ d h. by_test (same.digest x.digest d)
-            (λ t. waits d ∙ rw t refl)
-            (λ t. waits d ∙ rw t (core.unawaited d (stored-before d t h)));
       }
 
-      pub Takes-stored : (n : Option ℕ) → affordable budget x.digest n ≡ Some c → (own : P) → Takes same p x n (content own size budget primary old w0) (content own size budget primary new w1)
-      Takes-stored n affords own = record {
-        own = refl;
-        deque_size = refl;
-        byte_budget = refl;
-        primary = refl;
-        lists = λ q. stores.put.lists q ∙ rw (eligible, affords) refl;
-        cached = λ d. rw (← stored-listed same key_laws size budget primary new IsCore-stored d, ← stored-listed same key_laws size budget primary old core d) (stores.messages d);
-        waiters = waits;
-      }
+    -- where a refusal changes nothing
+    pub IsCached-took : {A E : Type 0} (r : Result A E) (c : Charged D) → c.digest ≡ x.digest → list_any (same.key p) primary ≡ true
+        → OnOk r (Stores same p x (fronted same.digest size budget c (items_at same.key p old.lists)) old new) → OnErr r (new ≡ old) → IsCached same size budget primary new
+    IsCached-took (Ok a) c one eligible stores stays = IsCached-stored c one eligible stores
+    IsCached-took (Err e) c one eligible stores stays = subst (IsCached same size budget primary) (sym stays) core
 
-    module _ (stays : new ≡ old) where
-      pub IsCore-ineligible : IsCore same size budget primary new w1
-      IsCore-ineligible = rw stays (record {
-        bounded = core.bounded;
-        affordable = core.affordable;
-        budget_fits = core.budget_fits;
-        primary_only = core.primary_only;
-        distinct = core.distinct;
-        messages = core.messages;
-        unawaited = λ d h. by_test (same.digest x.digest d)
+    module _ {W : Type 0} (w0 w1 : List (D × List W)) (waits : (d : D) → items_at same.digest d w1 ≡ cond (same.digest x.digest d) [] (items_at same.digest d w0)) where
+      module _ (c : Charged D) (one : c.digest ≡ x.digest) (eligible : list_any (same.key p) primary ≡ true)
+          (stores : Stores same p x (fronted same.digest size budget c (items_at same.key p old.lists)) old new) where
+        unawaited-stored : Unawaited same old w0 → Unawaited same new w1
+        unawaited-stored none = λ d h. by_test (same.digest x.digest d)
             (λ t. waits d ∙ rw t refl)
-            (λ t. waits d ∙ rw t (core.unawaited d h));
-      })
+            (λ t. waits d ∙ rw t (none d (core.messages d ∙ stored-before c one eligible stores d t (sym ((IsCached-stored c one eligible stores).messages d) ∙ h))))
 
-      pub Takes-ineligible : (n : Option ℕ) → (list_any (same.key p) primary ≡ false) ⊎ (affordable budget x.digest n ≡ None) → (own : P) → Takes same p x n (content own size budget primary old w0) (content own size budget primary new w1)
-      Takes-ineligible n why own = rw stays (record {
-        own = refl;
-        deque_size = refl;
-        byte_budget = refl;
-        primary = refl;
-        lists = λ q. by_test (same.key p q)
-            (λ h. rw (h, nodes-equal key_laws old.lists p q h) (elim why [
-              | inl ineligible ↦ rw ineligible refl
-              | inr oversize ↦ by_test (list_any (same.key p) primary) (λ k. rw (k, oversize) refl) (λ k. rw k refl)
-            ]))
-            (λ h. rw h refl);
-        cached = λ d. rw (← stored-listed same key_laws size budget primary old core d) (by_test (is_stored same d old.lists)
-            (λ h. rw h refl)
-            (λ h. rw h (none_from_no_some (lookup (same.digest d) old.messages) (core.messages d ∙ h))));
-        waiters = waits;
-      })
+        pub Takes-stored : (n : Option ℕ) → affordable budget x.digest n ≡ Some c → (own : P) → Takes same p x n (content own size budget primary old w0) (content own size budget primary new w1)
+        Takes-stored n affords own = record {
+          own = refl;
+          deque_size = refl;
+          byte_budget = refl;
+          primary = refl;
+          lists = λ q. stores.put.lists q ∙ rw (eligible, affords) refl;
+          cached = λ d. rw (← stored-listed same key_laws size budget primary new (IsCached-stored c one eligible stores) d, ← stored-listed same key_laws size budget primary old core d) (stores.messages d);
+          waiters = waits;
+        }
 
-    -- the list changes where the charge is within the budget
-    module _ (n : Option ℕ) where
-      named : (o : Option (Charged D)) → affordable budget x.digest n ≡ o → (c : Charged D) → o ≡ Some c → c.digest ≡ x.digest
-      named o is c some = by n is
-        where
-          by : (m : Option ℕ) → affordable budget x.digest m ≡ o → c.digest ≡ x.digest
-          by None was = let no : None ≡ Some c = was ∙ some in absurd (cc)
-          by (Some k) was = by_test (nat_le k budget)
-              (λ h.
-              let z : Charged D = at_charge x.digest k in
-              let yes : affordable budget x.digest (Some k) ≡ Some z = rw h refl in
-              let made : Some z ≡ Some c = sym yes ∙ was ∙ some in
-              let one : z ≡ c = cc in
-              ap (λ (y : Charged D). y.digest) (sym one))
-              (λ h.
-              let none : affordable budget x.digest (Some k) ≡ None = rw h refl in
-              let no : None ≡ Some c = sym none ∙ was ∙ some in absurd (cc))
+      module _ (stays : new ≡ old) where
+        unawaited-ineligible : Unawaited same old w0 → Unawaited same new w1
+        unawaited-ineligible none = rw stays (λ d h. by_test (same.digest x.digest d)
+            (λ t. waits d ∙ rw t refl)
+            (λ t. waits d ∙ rw t (none d h)))
 
-      stored-if : (o : Option (Charged D)) → affordable budget x.digest n ≡ o → list_any (same.key p) primary ≡ true → StoresIf same p x size budget o old new → IsCore same size budget primary new w1
-      stored-if None is eligible stays = IsCore-ineligible stays
-      stored-if (Some c) is eligible stores = IsCore-stored c (named (Some c) is c refl) eligible stores
+        pub Takes-ineligible : (n : Option ℕ) → (list_any (same.key p) primary ≡ false) ⊎ (affordable budget x.digest n ≡ None) → (own : P) → Takes same p x n (content own size budget primary old w0) (content own size budget primary new w1)
+        Takes-ineligible n why own = rw stays (record {
+          own = refl;
+          deque_size = refl;
+          byte_budget = refl;
+          primary = refl;
+          lists = λ q. by_test (same.key p q)
+              (λ h. rw (h, nodes-equal key_laws old.lists p q h) (elim why [
+                | inl ineligible ↦ rw ineligible refl
+                | inr oversize ↦ by_test (list_any (same.key p) primary) (λ k. rw (k, oversize) refl) (λ k. rw k refl)
+              ]))
+              (λ h. rw h refl);
+          cached = λ d. rw (← stored-listed same key_laws size budget primary old core d) (by_test (is_stored same d old.lists)
+              (λ h. rw h refl)
+              (λ h. rw h (none_from_no_some (lookup (same.digest d) old.messages) (core.messages d ∙ h))));
+          waiters = waits;
+        })
 
-      takes-if : (own : P) (o : Option (Charged D)) → affordable budget x.digest n ≡ o → list_any (same.key p) primary ≡ true → StoresIf same p x size budget o old new
-          → Takes same p x n (content own size budget primary old w0) (content own size budget primary new w1)
-      takes-if own None is eligible stays = Takes-ineligible stays n (inr is) own
-      takes-if own (Some c) is eligible stores = Takes-stored c (named (Some c) is c refl) eligible stores n is own
+      -- the list changes where the charge is within the budget
+      module _ (n : Option ℕ) where
+        named : (o : Option (Charged D)) → affordable budget x.digest n ≡ o → (c : Charged D) → o ≡ Some c → c.digest ≡ x.digest
+        named o is c some = by n is
+          where
+            by : (m : Option ℕ) → affordable budget x.digest m ≡ o → c.digest ≡ x.digest
+            by None was = let no : None ≡ Some c = was ∙ some in absurd (cc)
+            by (Some k) was = by_test (nat_le k budget)
+                (λ h.
+                let z : Charged D = at_charge x.digest k in
+                let yes : affordable budget x.digest (Some k) ≡ Some z = rw h refl in
+                let made : Some z ≡ Some c = sym yes ∙ was ∙ some in
+                let one : z ≡ c = cc in
+                ap (λ (y : Charged D). y.digest) (sym one))
+                (λ h.
+                let none : affordable budget x.digest (Some k) ≡ None = rw h refl in
+                let no : None ≡ Some c = sym none ∙ was ∙ some in absurd (cc))
 
-      pub IsCore-taken : (b : Bool) → b ≡ list_any (same.key p) primary → MatchBool b (StoresIf same p x size budget (affordable budget x.digest n) old new) (new ≡ old) → IsCore same size budget primary new w1
-      IsCore-taken true is h = stored-if (affordable budget x.digest n) refl (sym is) h
-      IsCore-taken false is h = IsCore-ineligible h
+        stored-if : (o : Option (Charged D)) → affordable budget x.digest n ≡ o → list_any (same.key p) primary ≡ true → StoresIf same p x size budget o old new → Unawaited same old w0 → Unawaited same new w1
+        stored-if None is eligible stays none = unawaited-ineligible stays none
+        stored-if (Some c) is eligible stores none = unawaited-stored c (named (Some c) is c refl) eligible stores none
 
-      pub Takes-taken : (own : P) (b : Bool) → b ≡ list_any (same.key p) primary → MatchBool b (StoresIf same p x size budget (affordable budget x.digest n) old new) (new ≡ old)
-          → Takes same p x n (content own size budget primary old w0) (content own size budget primary new w1)
-      Takes-taken own true is h = takes-if own (affordable budget x.digest n) refl (sym is) h
-      Takes-taken own false is h = Takes-ineligible h n (inl (sym is)) own
+        takes-if : (own : P) (o : Option (Charged D)) → affordable budget x.digest n ≡ o → list_any (same.key p) primary ≡ true → StoresIf same p x size budget o old new
+            → Takes same p x n (content own size budget primary old w0) (content own size budget primary new w1)
+        takes-if own None is eligible stays = Takes-ineligible stays n (inr is) own
+        takes-if own (Some c) is eligible stores = Takes-stored c (named (Some c) is c refl) eligible stores n is own
+
+        pub Unawaited-taken : (b : Bool) → b ≡ list_any (same.key p) primary → MatchBool b (StoresIf same p x size budget (affordable budget x.digest n) old new) (new ≡ old)
+            → Unawaited same old w0 → Unawaited same new w1
+        Unawaited-taken true is h none = stored-if (affordable budget x.digest n) refl (sym is) h none
+        Unawaited-taken false is h none = unawaited-ineligible h none
+
+        pub Takes-taken : (own : P) (b : Bool) → b ≡ list_any (same.key p) primary → MatchBool b (StoresIf same p x size budget (affordable budget x.digest n) old new) (new ≡ old)
+            → Takes same p x n (content own size budget primary old w0) (content own size budget primary new w1)
+        Takes-taken own true is h = takes-if own (affordable budget x.digest n) refl (sym is) h
+        Takes-taken own false is h = Takes-ineligible h n (inl (sym is)) own
 
   -- where only primary keys have lists, those that leave are all but those that stay
-  pub kept : (peers primary : List P) (old new : Stored P M D) (waiters : List (D × List W)) → IsCore same size budget primary old waiters → Drops same primary peers old new → Keeps same peers old new
-  kept peers primary old new waiters core drops = record {
+  pub kept : (peers primary : List P) (old new : Stored P M D) → IsCached same size budget primary old → Drops same primary peers old new → Keeps same peers old new
+  kept peers primary old new core drops = record {
     lists = λ q. drops.lists q ∙ by_test (list_any (same.key q) peers)
         (λ h. rw h (off (list_any (same.key q) primary) (items_at same.key q old.lists)))
         (λ h. rw h (by_test (list_any (same.key q) primary)
@@ -229,7 +240,7 @@ module _ {P M D W : Type 0} (same : Same P D) (key_laws : IsEquivalence same.key
           (λ t. let no : false ≡ true = sym k ∙ core.primary_only q t in absurd (cc))
           (λ t. t)
 
-  module _ (peers primary : List P) (old new : Stored P M D) (waiters : List (D × List W)) (core : IsCore same size budget primary old waiters) (keeps : Keeps same peers old new) where
+  module _ (peers primary : List P) (old new : Stored P M D) (core : IsCached same size budget primary old) (keeps : Keeps same peers old new) where
     was_stored : (d : D) → is_stored same d new.lists ≡ true → is_stored same d old.lists ≡ true
     was_stored d h =
         let r = holder same key_laws d new.lists keeps.distinct h in
@@ -237,8 +248,8 @@ module _ {P M D W : Type 0} (same : Same P D) (key_laws : IsEquivalence same.key
         (λ t. let is : items_at same.key r.key new.lists ≡ items_at same.key r.key old.lists = keeps.lists r.key ∙ rw t refl in sym (ap (has_digest same.digest d) is) ∙ r.listed)
         (λ t. let is : items_at same.key r.key new.lists ≡ [] = keeps.lists r.key ∙ rw t refl in absurd (let none : false ≡ true = sym (ap (has_digest same.digest d) is) ∙ r.listed in cc)))
 
-    pub IsCore-kept : IsCore same size budget peers new waiters
-    IsCore-kept = record {
+    pub IsCached-kept : IsCached same size budget peers new
+    IsCached-kept = record {
       bounded = λ q. by_test (list_any (same.key q) peers)
           (λ h. rw (keeps.lists q, h) (core.bounded q))
           (λ h. rw (keeps.lists q, h) (omega arith));
@@ -251,16 +262,18 @@ module _ {P M D W : Type 0} (same : Same P D) (key_laws : IsEquivalence same.key
       messages = λ d. by_test (is_stored same d new.lists)
           (λ h. rw (keeps.messages d, h) (core.messages d ∙ was_stored d h))
           (λ h. rw (keeps.messages d, h) refl);
-      unawaited = λ d h. core.unawaited d (was_stored d h);
     }
 
-    pub TakesPeers-kept : (own : P) → TakesPeers same peers (content own size budget primary old waiters) (content own size budget peers new waiters)
-    TakesPeers-kept own = record {
+    pub Unawaited-kept : {W : Type 0} (waiters : List (D × List W)) → Unawaited same old waiters → Unawaited same new waiters
+    Unawaited-kept waiters none = λ d h. none d (core.messages d ∙ was_stored d (sym (IsCached-kept.messages d) ∙ h))
+
+    pub TakesPeers-kept : {W : Type 0} (waiters : List (D × List W)) (own : P) → TakesPeers same peers (content own size budget primary old waiters) (content own size budget peers new waiters)
+    TakesPeers-kept waiters own = record {
       own = refl;
       deque_size = refl;
       byte_budget = refl;
       primary = refl;
       lists = keeps.lists;
-      cached = λ d. rw (← stored-listed same key_laws size budget peers new IsCore-kept d) (keeps.messages d);
+      cached = λ d. rw (← stored-listed same key_laws size budget peers new IsCached-kept d) (keeps.messages d);
       waiters = λ d. refl;
     }

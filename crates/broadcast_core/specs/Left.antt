@@ -19,9 +19,9 @@ module _ {X : Type 0} where
   abbrev pub Widens : Left X → Left X → Type 0
   Widens old new = (new.items ≡ old.items) × (old.room ≤ new.room)
 
--- what was there and is not any more is added, if it is kept
+-- what was there and is not any more is added to what left, if that is kept
 pub record Adds {M D : Type 0} (same : D → D → Bool) (old new : List (D × Carried M D))
-    (before after : Left (Carried M D)) : Type 0 where
+    (before after : Option (List (Carried M D))) : Type 0 where
   pub gone : List (Carried M D)
-  pub added : after.items ≡ option_map (λ xs. xs ++ gone) before.items
+  pub added : after ≡ option_map (λ xs. xs ++ gone) before
   pub each : HaveLeft same old new gone

@@ -1,7 +1,8 @@
 -- Internal.
 -- The content of a cache, and how takings and peer sets change it.
-use Rattle.std.specs.Prelude.{◌^◌, ◌≡◌, ℕ, Bool, false, true, not, ◌&&◌, ◌||◌, if◌then◌else◌, List, [], length, ◌≤◌, ◌<◌, slice_index_or, Option, Some, None, is_some}
+use Rattle.std.specs.Prelude.{◌^◌, ◌≡◌, ℕ, Bool, false, true, not, ◌&&◌, ◌||◌, if◌then◌else◌, List, [], ◌++◌, length, ◌≤◌, ◌<◌, slice_index_or, Option, Some, None, is_some, IfSome}
 use Rattle.std.specs.List.{list_any, IsDistinct}
+use Rattle.std.specs.Option.{option_map, option_to_list}
 use Rattle.entries.specs.declared.entry.Charged.{Charged}
 use Rattle.std.specs.Map.{lookup, keys_of}
 use Rattle.std.specs.declared.cmp.Ordering.{Ordering}
@@ -9,29 +10,69 @@ use Rattle.std.specs.declared.cmp.Ordering.TheVariants.{Less}
 use Rattle.broadcast_core.specs.Carried.{Carried}
 use Rattle.broadcast_core.specs.Content.{Content, Same, bytes_of, items_at}
 use Rattle.broadcast_core.specs.Fronted.{fronted}
+use Rattle.broadcast_core.specs.Left.{Adds}
 
 -- the lists by peer, and the messages by digest
 pub record Stored (P M D : Type 0) : Type 0 where
   pub lists : List (P × List (Charged D))
   pub messages : List (D × Carried M D)
 
--- what a core keeps beside its own key
-pub record Kept (P M D W : Type 0) : Type 0 where
+-- what a shelf keeps: its limits, what it stores, and the messages that left it, if it reports them
+pub record Shelf (P M D : Type 0) : Type 0 where
   pub deque_size : ℕ
   pub byte_budget : ℕ
-  pub primary : List P
   pub stored : Stored P M D
+  pub left : Option (List (Carried M D))
+
+-- what a cache keeps: the primary keys, and a list for each peer
+pub record Cached (P M D : Type 0) : Type 0 where
+  pub primary : List P
+  pub shelf : Shelf P M D
+
+-- what a core keeps beside its own key
+pub record Kept (P M D W : Type 0) : Type 0 where
+  pub cache : Cached P M D
   pub waiters : List (D × List W)
+
+-- a shelf with no list and no message
+abbrev pub empty_shelf : {P M D : Type 0} → ℕ → ℕ → Bool → Shelf P M D
+empty_shelf deque_size byte_budget reports = record {
+  deque_size = deque_size;
+  byte_budget = byte_budget;
+  stored = record { lists = []; messages = [] };
+  left = if reports then Some [] else None;
+}
+
+module _ {P M D : Type 0} where
+  -- only what is stored changes
+  pub record KeepsRest (old new : Shelf P M D) : Type 0 where
+    pub deque_size : new.deque_size ≡ old.deque_size
+    pub byte_budget : new.byte_budget ≡ old.byte_budget
+    pub left : new.left ≡ old.left
+
+  -- the limits stay, and what was stored and is not any more is added to what left
+  pub record Sheds (same : D → D → Bool) (old new : Shelf P M D) : Type 0 where
+    pub deque_size : new.deque_size ≡ old.deque_size
+    pub byte_budget : new.byte_budget ≡ old.byte_budget
+    pub left : Adds same old.stored.messages new.stored.messages old.left new.left
+
+  -- the message that left last is removed, if one is there, and all else stays
+  pub record Pops (out : Option (Carried M D)) (old new : Shelf P M D) : Type 0 where
+    pub deque_size : new.deque_size ≡ old.deque_size
+    pub byte_budget : new.byte_budget ≡ old.byte_budget
+    pub stored : new.stored ≡ old.stored
+    pub popped : old.left ≡ option_map (λ xs. xs ++ option_to_list out) new.left
+    pub empty : out ≡ None → IfSome old.left (λ xs. xs ≡ [])
 
 -- the content of a core with this own key
 abbrev pub with_own : {P M D W : Type 0} → P → Kept P M D W → Content P M D W
 with_own own kept = record {
   own = own;
-  deque_size = kept.deque_size;
-  byte_budget = kept.byte_budget;
-  primary = kept.primary;
-  lists = kept.stored.lists;
-  cached = kept.stored.messages;
+  deque_size = kept.cache.shelf.deque_size;
+  byte_budget = kept.cache.shelf.byte_budget;
+  primary = kept.cache.primary;
+  lists = kept.cache.shelf.stored.lists;
+  cached = kept.cache.shelf.stored.messages;
   waiters = kept.waiters;
 }
 
@@ -96,20 +137,9 @@ module _ {P D : Type 0} (same : Same P D) where
       pub messages : (d : D) → lookup (same.digest d) new.messages
           ≡ (if is_stored d new.lists then lookup (same.digest d) old.messages else None)
 
-    -- only these keys keep their lists, and messages whose digest is on no list are dropped
-    pub record Keeps (peers : List P) (old new : Stored P M D) : Type 0 where
-      pub lists : (q : P) → items_at same.key q new.lists
-          ≡ (if list_any (same.key q) peers then items_at same.key q old.lists else [])
-      pub keys : (q : P) → is_some (lookup (same.key q) new.lists) ≡ true
-          → list_any (same.key q) peers ≡ true
-      pub distinct : IsDistinct same.key (keys_of new.lists)
-      pub messages : (d : D) → lookup (same.digest d) new.messages
-          ≡ (if is_stored d new.lists then lookup (same.digest d) old.messages else None)
-
-    -- the invariant of a core: lists have at most their size and bytes, only primary keys have one, a
-    -- message is cached exactly if its digest is on a list, and a digest on a list has no waiters
-    pub record IsCore {W : Type 0} (size budget : ℕ) (primary : List P) (stored : Stored P M D)
-        (waiters : List (D × List W)) : Type 0 where
+    -- the law of a cache: lists have at most their size and bytes, only primary keys have one, and a
+    -- message is cached exactly if its digest is on a list
+    pub record IsCached (size budget : ℕ) (primary : List P) (stored : Stored P M D) : Type 0 where
       pub bounded : (p : P) → length (items_at same.key p stored.lists) ≤ size
       pub affordable : (p : P) → bytes_of (items_at same.key p stored.lists) ≤ budget
       pub budget_fits : budget < 2 ^ 64
@@ -118,5 +148,11 @@ module _ {P D : Type 0} (same : Same P D) where
       pub distinct : IsDistinct same.key (keys_of stored.lists)
       pub messages : (d : D)
           → is_some (lookup (same.digest d) stored.messages) ≡ is_stored d stored.lists
-      pub unawaited : (d : D)
-          → is_stored d stored.lists ≡ true → items_at same.digest d waiters ≡ []
+
+    abbrev pub Lawful : Cached P M D → Type 0
+    Lawful c = IsCached c.shelf.deque_size c.shelf.byte_budget c.primary c.shelf.stored
+
+    -- a digest of a cached message has no waiters
+    abbrev pub Unawaited : {W : Type 0} → Stored P M D → List (D × List W) → Type 0
+    Unawaited stored waiters = (d : D) → is_some (lookup (same.digest d) stored.messages) ≡ true
+        → items_at same.digest d waiters ≡ []

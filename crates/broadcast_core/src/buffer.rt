@@ -9,7 +9,6 @@ ghost use Rattle.std.specs.Ordering.{eq_by_cmp};
 ghost use Rattle.entries.specs.Overlaid.{overlaid};
 ghost use Rattle.broadcast_core.specs.Content.{same_by};
 ghost use Rattle.broadcast_core.specs.Empty.{empty};
-ghost use Rattle.broadcast_core.specs.Left.{Adds, HasRoom};
 
 mod cache;
 mod gone;
@@ -24,13 +23,10 @@ use crate::digested::{Digested, Digestible};
 use crate::ordered::{PublicKey, Set};
 use crate::outcome::{Subscribed, Taken};
 use crate::requests::{Closable, Ticketed};
-use cache::Cache;
-use left::Left;
 pub use reporting::Reporting;
 use state::State;
 use std::alloc::{AllocError, AllocFailed, Global};
 use std::marker::Model;
-use waiters::Waiters;
 
 /// A node's list of the newest digests of each peer, the cached messages and the waiters.
 #[derive(Drop)]
@@ -63,13 +59,7 @@ impl<P: PublicKey, M: Digestible, W: Drop> Core<P, M, W> {
     {
         Core {
             own,
-            state: State {
-                deque_size,
-                byte_budget,
-                primary: Set::default(alloc),
-                cache: Cache::new(alloc),
-                waiters: Waiters::new(alloc),
-            },
+            state: State::new(alloc, deque_size, byte_budget, false),
         }
     }
 
@@ -84,7 +74,7 @@ impl<P: PublicKey, M: Digestible, W: Drop> Core<P, M, W> {
     pub fn primary(&self) -> &Set<P>
         ensures { result.now ≡ self.now.primary }
     {
-        &self.state.primary
+        self.state.cache.primary()
     }
 
     /// Returns the number of cached messages.
@@ -154,7 +144,7 @@ impl<P: PublicKey, M: Digestible, W: Drop> Core<P, M, W> {
             result ≡ bytes_of (charged_at same self.now peer.now) }
         ensures bounded { result ≤ self.now.byte_budget }
     {
-        self.state.cache.bytes(peer) as u64
+        self.state.cache.bytes(peer)
     }
 
     /// Returns the cached message of `digest`.
@@ -174,18 +164,7 @@ impl<P: PublicKey, M: Digestible, W: Drop> Core<P, M, W> {
     pub fn update_primary_peers(&mut self, peers: Set<P>)
         ensures { TakesPeers (same_by P.cmp M.Digest.cmp) peers self.old self.new }
     {
-        self.update_primary_peers_into(peers, &mut Left::off());
-    }
-
-    /// Makes `peers` the primary keys, and adds the messages that leave to `left`.
-    fn update_primary_peers_into(&mut self, peers: Set<P>, left: &mut Left<M>)
-        requires { HasRoom (length self.old.cached) left.old }
-        ensures taken { TakesPeers (same_by P.cmp M.Digest.cmp) peers self.old self.new }
-        ensures left { Adds (eq_by_cmp M.Digest.cmp) self.old.cached self.new.cached
-            left.old left.new }
-        ensures left_room { HasRoom (length self.new.cached) left.new }
-    {
-        self.state.update_primary_peers(peers, left);
+        self.state.update_primary_peers(peers);
     }
 
     /// Takes `message` under the key `peer`, and serves every waiter of its digest, whether or not
@@ -200,26 +179,7 @@ impl<P: PublicKey, M: Digestible, W: Drop> Core<P, M, W> {
         ensures { IsTaken (same_by P.cmp M.Digest.cmp) peer.now message.now
             (option_map length (M.encoding message.now.message)) self.old self.new result }
     {
-        self.state.take(peer, message, &mut Left::off())
-    }
-
-    /// Takes `message` under the key `peer`, and adds the messages that leave to `left`.
-    fn take_into(
-        &mut self,
-        peer: &P,
-        message: &Digested<M>,
-        left: &mut Left<M>,
-    ) -> Result<Taken<W>, AllocError>
-    where
-        M: EncodeSize,
-        requires { HasRoom (length self.old.cached) left.old }
-        ensures taken { IsTaken (same_by P.cmp M.Digest.cmp) peer.now message.now
-            (option_map length (M.encoding message.now.message)) self.old self.new result }
-        ensures left { Adds (eq_by_cmp M.Digest.cmp) self.old.cached self.new.cached
-            left.old left.new }
-        ensures left_room { HasRoom (length self.new.cached) left.new }
-    {
-        self.state.take(peer, message, left)
+        self.state.take(peer, message)
     }
 
     /// Takes `message` under the own key, as [`Core::take`] does.
@@ -230,7 +190,7 @@ impl<P: PublicKey, M: Digestible, W: Drop> Core<P, M, W> {
             (option_map length (M.encoding message.now.message)) self.old self.new result }
     {
         let Core { own, state } = self;
-        state.take(own, message, &mut Left::off())
+        state.take(own, message)
     }
 
     /// Returns `waiter` with the cached message of `digest`, or puts it behind the other waiters of
@@ -246,16 +206,7 @@ impl<P: PublicKey, M: Digestible, W: Drop> Core<P, M, W> {
             (IsSubscribed (same_by P.cmp M.Digest.cmp) digest waiter self.old self.new) }
         ensures err { IfErr result (λ refused. (refused.value ≡ waiter) × (self.new ≡ self.old)) }
     {
-        if let Some(message) = self.state.cache.get(&digest) {
-            return match message.clone() {
-                Ok(message) => Ok(Subscribed::Answered(waiter, message)),
-                Err(_) => Err(AllocFailed { value: waiter }),
-            };
-        }
-        match self.state.waiters.push(digest, waiter) {
-            Ok(()) => Ok(Subscribed::Waiting),
-            Err((value, _)) => Err(AllocFailed { value }),
-        }
+        self.state.subscribe(digest, waiter)
     }
 
     /// Drops every waiter whose ticket is in `gone`. Returns how many, saturating at `u64::MAX`.

@@ -326,7 +326,7 @@ pub extern "C" fn broadcast_store_bytes(
     let Some(held) = store.take(alloc) else {
         return EMPTY;
     };
-    *out = held.cache.core().bytes(peer);
+    *out = held.cache.bytes(peer);
     store.put(held);
     OK
 }
@@ -347,7 +347,7 @@ pub extern "C" fn broadcast_store_list(
     let Some(held) = store.take(alloc) else {
         return EMPTY;
     };
-    let len = held.cache.core().list_into(peer, out);
+    let len = held.cache.list_into(peer, out);
     *needed = len;
     store.put(held);
     if len <= out.len() { OK } else { SHORT }

@@ -1,16 +1,15 @@
-//! The lists of the peers, and each listed message once.
-ghost use Rattle.std.specs.Prelude.{◌≡◌, ◌≤◌, ◌<◌, ◌∷◌, Bool, false, true, length, [], None, is_some, IfOk, IfSome, OnOk, OnErr, IsOk, MatchBool};
+//! The primary keys, their lists, and each listed message once.
+ghost use Rattle.std.specs.Prelude.{◌≡◌, ◌≤◌, ◌<◌, ◌*◌, ◌∷◌, Bool, false, true, length, [], None, is_some, unwrap_or, IfOk, IfSome, OnOk, OnErr, IsOk, MatchBool};
 ghost use Rattle.std.specs.Option.{option_copied, option_map};
 ghost use Rattle.std.specs.List.{IsDistinct, list_any};
 ghost use Rattle.std.specs.Map.{lookup, keys_of};
 ghost use Rattle.std.specs.Ordering.{eq_by_cmp};
 ghost use Rattle.entries.specs.Overlaid.{overlaid};
-ghost use Rattle.broadcast_core.specs.Content.{same_by, same_charged, at_charge, digests_of, bytes_of, among, items_at, outcome_of};
+ghost use Rattle.broadcast_core.specs.Content.{same_by, same_charged, affordable, at_charge, digests_of, bytes_of, among, items_at, outcome_of};
 ghost use Rattle.broadcast_core.specs.Fronted.{fronted};
-ghost use Rattle.broadcast_core.specs.Left.{Adds, HasRoom};
-ghost use Rattle.broadcast_core.specs.Stored.{has_digest};
+ghost use Rattle.broadcast_core.specs.Numbered.{IsNumbered, named_of};
+ghost use Rattle.broadcast_core.specs.Stored.{has_digest, empty_shelf, Drops, Lawful, Pops, Sheds};
 
-use crate::buffer::left::Left;
 use crate::buffer::shelf::Shelf;
 use crate::digested::{Digested, Digestible};
 use crate::ordered::{PublicKey, Set};
@@ -19,9 +18,10 @@ use entries::Parts;
 use std::alloc::{AllocError, Global};
 use std::marker::Model;
 
-/// The lists of the peers, and the messages of their digests. A list goes by a number.
+/// The primary keys, their lists, and the messages of the listed digests. A list goes by a number.
 #[derive(Drop)]
 pub struct Cache<P: PublicKey, M: Digestible> {
+    primary: Set<P>,
     numbers: Parts<P, usize>,
     shelf: Shelf<M>,
 }
@@ -29,32 +29,75 @@ pub struct Cache<P: PublicKey, M: Digestible> {
 impl<P: PublicKey, M: Digestible> Model for Cache<P, M> {
     ghost use Rattle.broadcast_core.specs.Content.{same_by};
     ghost use Rattle.broadcast_core.specs.Numbered.{IsNumbered, named_of};
-    ghost use Rattle.broadcast_core.specs.Stored.{Stored};
+    ghost use Rattle.broadcast_core.specs.Stored.{Cached, IsCached};
 
-    ghost Value = { Stored P M M.Digest };
+    ghost Value = { Cached P M M.Digest };
 
-    ghost view = { λ it. named_of it.numbers it.shelf };
+    ghost view = { λ it. record {
+      primary = it.primary;
+      shelf = record {
+        deque_size = it.shelf.deque_size;
+        byte_budget = it.shelf.byte_budget;
+        stored = named_of it.numbers it.shelf.stored;
+        left = it.shelf.left;
+      };
+    } };
 
-    ghost invariant = { λ it. IsNumbered P.cmp M.Digest.cmp it.numbers it.shelf };
+    ghost invariant = { λ it. IsNumbered P.cmp M.Digest.cmp it.numbers it.shelf.stored
+        × IsCached (same_by P.cmp M.Digest.cmp) it.shelf.deque_size it.shelf.byte_budget
+        it.primary (named_of it.numbers it.shelf.stored) };
 }
 
 impl<P: PublicKey, M: Digestible> Cache<P, M> {
-    ghost use Rattle.broadcast_core.specs.Stored.{Stores, StoresIf, Drops};
+    ghost use Rattle.broadcast_core.specs.Stored.{Stores, StoresIf};
 
-    /// Creates an empty cache. Does not allocate.
-    pub fn new(alloc: Global) -> Self
-        ensures { result ≡ record { lists = []; messages = [] } }
+    /// Creates an empty cache. It keeps the messages that leave if it `reports` them. Does not
+    /// allocate.
+    pub fn new(alloc: Global, deque_size: usize, byte_budget: u64, reports: bool) -> Self
+        ensures primary { result.primary ≡ [] }
+        ensures shelf { result.shelf ≡ empty_shelf deque_size byte_budget reports }
     {
         Cache {
+            primary: Set::default(alloc),
             numbers: Parts::new(alloc),
-            shelf: Shelf::new(alloc),
+            shelf: Shelf::new(alloc, deque_size, byte_budget, reports),
         }
+    }
+
+    /// Returns the primary keys.
+    pub fn primary(&self) -> &Set<P>
+        ensures { result.now ≡ self.now.primary }
+    {
+        &self.primary
+    }
+
+    /// Returns the most digests on a list.
+    pub fn deque_size(&self) -> usize
+        ensures { result ≡ self.now.shelf.deque_size }
+    {
+        self.shelf.deque_size()
+    }
+
+    /// Returns the number of messages that left and were not removed yet.
+    pub fn left_len(&self) -> usize
+        ensures { result ≡ unwrap_or (option_map length self.now.shelf.left) 0 }
+    {
+        self.shelf.left_len()
+    }
+
+    /// Removes the message that left last, and returns it.
+    pub fn pop_left(&mut self) -> Option<Digested<M>>
+        ensures popped { Pops result self.old.shelf self.new.shelf }
+        ensures primary { self.new.primary ≡ self.old.primary }
+    {
+        self.shelf.pop_left()
     }
 
     /// Returns the message of `digest`.
     pub fn get(&self, digest: &M::Digest) -> Option<&Digested<M>>
+        ensures lawful { Lawful (same_by P.cmp M.Digest.cmp) self.now }
         ensures message { option_copied result
-            ≡ lookup (eq_by_cmp M.Digest.cmp digest.now) self.now.messages }
+            ≡ lookup (eq_by_cmp M.Digest.cmp digest.now) self.now.shelf.stored.messages }
         ensures named { IfSome result (λ message.
             eq_by_cmp M.Digest.cmp digest.now message.now.digest ≡ true) }
     {
@@ -63,102 +106,96 @@ impl<P: PublicKey, M: Digestible> Cache<P, M> {
 
     /// Returns the number of messages.
     pub fn len(&self) -> usize
-        ensures len { result ≡ length self.now.messages }
-        ensures distinct { IsDistinct (eq_by_cmp M.Digest.cmp) (keys_of self.now.messages) }
+        ensures bounded { result ≤ length self.now.primary * self.now.shelf.deque_size }
+        ensures len { result ≡ length self.now.shelf.stored.messages }
+        ensures distinct { IsDistinct (eq_by_cmp M.Digest.cmp)
+            (keys_of self.now.shelf.stored.messages) }
     {
         self.shelf.len()
     }
 
-    /// Puts the digest in front of the list of a primary key, if it has a charge, and drops the
-    /// oldest digests beyond the limits. The messages that leave are added to `left`.
+    /// Puts the digest in front of the list of a primary key, if its charge is within the byte
+    /// budget, and drops the oldest digests beyond the limits.
     pub fn take(
         &mut self,
-        primary: &Set<P>,
         peer: &P,
         message: &Digested<M>,
         charge: Option<u64>,
-        deque_size: usize,
-        byte_budget: u64,
-        left: &mut Left<M>,
     ) -> Result<Listing, AllocError>
-        requires size { length (items_at (eq_by_cmp P.cmp) peer.now self.old.lists) ≤ deque_size }
-        requires bytes { bytes_of (items_at (eq_by_cmp P.cmp) peer.now self.old.lists)
-            ≤ byte_budget }
-        requires primary_only { is_some (lookup (eq_by_cmp P.cmp peer.now) self.old.lists) ≡ true
-            → list_any (eq_by_cmp P.cmp peer.now) primary.now ≡ true }
-        requires affordable { IfSome charge (λ bytes. bytes ≤ byte_budget) }
-        requires left_room { HasRoom (length self.old.messages) left.old }
+        ensures lawful { Lawful (same_by P.cmp M.Digest.cmp) self.old }
         ensures outcome { let same = same_by P.cmp M.Digest.cmp in
-            let cs = items_at same.key peer.now self.old.lists in
+            let old = self.old.shelf in
+            let cs = items_at same.key peer.now old.stored.lists in
             IfOk result (λ listing. listing.outcome
-            ≡ outcome_of (list_any (same.key peer.now) primary.now) (is_some charge)
+            ≡ outcome_of (list_any (same.key peer.now) self.old.primary)
+            (is_some (affordable old.byte_budget message.now.digest charge))
             (has_digest same.digest message.now.digest cs)) }
         ensures cached { IfOk result (λ listing. listing.was_cached ≡ true → is_some (lookup
-            (eq_by_cmp M.Digest.cmp message.now.digest) self.old.messages) ≡ true) }
+            (eq_by_cmp M.Digest.cmp message.now.digest) self.old.shelf.stored.messages) ≡ true) }
         ensures known { IfOk result (λ listing. listing.outcome ≡ Outcome.Inserted
-            → 0 < deque_size → listing.was_cached ≡ is_some (lookup
-            (eq_by_cmp M.Digest.cmp message.now.digest) self.old.messages)) }
-        ensures stays_at_size_zero { deque_size ≡ 0 → self.new ≡ self.old }
+            → 0 < self.old.shelf.deque_size → listing.was_cached ≡ is_some (lookup
+            (eq_by_cmp M.Digest.cmp message.now.digest) self.old.shelf.stored.messages)) }
+        ensures stays_at_size_zero { self.old.shelf.deque_size ≡ 0 → self.new ≡ self.old }
         ensures ok { let same = same_by P.cmp M.Digest.cmp in
-            OnOk result (MatchBool (list_any (same.key peer.now) primary.now)
-            (StoresIf same peer.now message.now deque_size byte_budget
-            (option_map (at_charge message.now.digest) charge) self.old self.new)
+            let old = self.old.shelf in
+            OnOk result (MatchBool (list_any (same.key peer.now) self.old.primary)
+            (StoresIf same peer.now message.now old.deque_size old.byte_budget
+            (affordable old.byte_budget message.now.digest charge)
+            old.stored self.new.shelf.stored)
             (self.new ≡ self.old)) }
+        ensures primary { self.new.primary ≡ self.old.primary }
+        ensures sheds { Sheds (eq_by_cmp M.Digest.cmp) self.old.shelf self.new.shelf }
         ensures err { OnErr result (self.new ≡ self.old) }
-        ensures left { Adds (eq_by_cmp M.Digest.cmp) self.old.messages self.new.messages
-            left.old left.new }
-        ensures left_room { HasRoom (length self.new.messages) left.new }
 
         // These never fail.
-        ensures succeeds_on_duplicate { among (eq_by_cmp M.Digest.cmp) message.now.digest
-            (digests_of (items_at (eq_by_cmp P.cmp) peer.now self.old.lists)) ≡ true → IsOk result }
-        ensures succeeds_on_ineligible { list_any (eq_by_cmp P.cmp peer.now) primary.now ≡ false
-            → IsOk result }
-        ensures succeeds_on_oversize { charge ≡ None → IsOk result }
-        ensures succeeds_at_size_zero { deque_size ≡ 0 → IsOk result }
+        ensures succeeds_on_duplicate { let old = self.old.shelf.stored in
+            among (eq_by_cmp M.Digest.cmp) message.now.digest
+            (digests_of (items_at (eq_by_cmp P.cmp) peer.now old.lists)) ≡ true → IsOk result }
+        ensures succeeds_on_ineligible { list_any (eq_by_cmp P.cmp peer.now) self.old.primary
+            ≡ false → IsOk result }
+        ensures succeeds_on_oversize { is_some (affordable self.old.shelf.byte_budget
+            message.now.digest charge) ≡ false → IsOk result }
+        ensures succeeds_at_size_zero { self.old.shelf.deque_size ≡ 0 → IsOk result }
     {
-        let Some(bytes) = charge else {
-            return Ok(Listing::unchanged(without_charge(primary, peer)));
+        let Some(bytes) = self.shelf.afforded(charge) else {
+            return Ok(Listing::unchanged(without_charge(&self.primary, peer)));
         };
         match self.numbers.get(peer) {
             // A peer that has a list is primary, so the set is not searched.
-            Some(list) => self
-                .shelf
-                .take(*list, message, bytes, deque_size, byte_budget, left),
-            None if primary.position(peer).is_none() => {
+            Some(list) => self.shelf.take(*list, message, bytes),
+            None if self.primary.position(peer).is_none() => {
                 Ok(Listing::unchanged(Outcome::Ineligible))
             }
-            None if deque_size == 0 => Ok(Listing::unchanged(Outcome::Inserted)),
-            None => self.take_first(peer, message, bytes, deque_size, byte_budget, left),
+            None if self.shelf.deque_size() == 0 => Ok(Listing::unchanged(Outcome::Inserted)),
+            None => self.take_first(peer, message, bytes),
         }
     }
 
-    /// Puts the digest on the list of a peer that has none.
+    /// Puts the digest on the list of a primary key that has none.
     fn take_first(
         &mut self,
         peer: &P,
         message: &Digested<M>,
         charge: u64,
-        deque_size: usize,
-        byte_budget: u64,
-        left: &mut Left<M>,
     ) -> Result<Listing, AllocError>
-        requires absent { lookup (eq_by_cmp P.cmp peer.now) self.old.lists ≡ None }
-        requires affordable { charge ≤ byte_budget }
-        requires left_room { HasRoom (length self.old.messages) left.old }
+        requires absent { lookup (eq_by_cmp P.cmp peer.now) self.old.shelf.stored.lists ≡ None }
+        requires primary { list_any (eq_by_cmp P.cmp peer.now) self.old.primary ≡ true }
+        requires affordable { charge ≤ self.old.shelf.byte_budget }
         ensures outcome { IfOk result (λ listing. listing.outcome ≡ outcome_of true true false) }
         ensures cached { IfOk result (λ listing. listing.was_cached ≡ true → is_some (lookup
-            (eq_by_cmp M.Digest.cmp message.now.digest) self.old.messages) ≡ true) }
-        ensures known { 0 < deque_size → IfOk result (λ listing. listing.was_cached
-            ≡ is_some (lookup (eq_by_cmp M.Digest.cmp message.now.digest) self.old.messages)) }
+            (eq_by_cmp M.Digest.cmp message.now.digest) self.old.shelf.stored.messages) ≡ true) }
+        ensures known { 0 < self.old.shelf.deque_size → IfOk result (λ listing.
+            listing.was_cached ≡ is_some (lookup (eq_by_cmp M.Digest.cmp message.now.digest)
+            self.old.shelf.stored.messages)) }
         ensures ok { let same = same_by P.cmp M.Digest.cmp in
+            let old = self.old.shelf in
             let c = at_charge message.now.digest charge in
             OnOk result (Stores same peer.now message.now
-            (fronted same.digest deque_size byte_budget c []) self.old self.new) }
+            (fronted same.digest old.deque_size old.byte_budget c [])
+            old.stored self.new.shelf.stored) }
+        ensures primary_stays { self.new.primary ≡ self.old.primary }
+        ensures sheds { Sheds (eq_by_cmp M.Digest.cmp) self.old.shelf self.new.shelf }
         ensures err { OnErr result (self.new ≡ self.old) }
-        ensures left { Adds (eq_by_cmp M.Digest.cmp) self.old.messages self.new.messages
-            left.old left.new }
-        ensures left_room { HasRoom (length self.new.messages) left.new }
     {
         let owner = peer.clone()?;
         let list = self.shelf.open()?;
@@ -168,10 +205,7 @@ impl<P: PublicKey, M: Digestible> Cache<P, M> {
         };
         // The peers ascend: so says `len`.
         let _peers = self.numbers.len();
-        match self
-            .shelf
-            .take(list, message, charge, deque_size, byte_budget, left)
-        {
+        match self.shelf.take(list, message, charge) {
             Ok(taken) => Ok(taken),
             Err(refused) => {
                 self.numbers.remove(peer);
@@ -182,23 +216,26 @@ impl<P: PublicKey, M: Digestible> Cache<P, M> {
     }
 
     /// Returns the sum of the charges on the list of `peer`.
-    pub fn bytes(&self, peer: &P) -> u128
-        ensures { result ≡ bytes_of (items_at (eq_by_cmp P.cmp) peer.now self.now.lists) }
+    pub fn bytes(&self, peer: &P) -> u64
+        ensures bounded { result ≤ self.now.shelf.byte_budget }
+        ensures sum { let lists = self.now.shelf.stored.lists in
+            result ≡ bytes_of (items_at (eq_by_cmp P.cmp) peer.now lists) }
     {
         match self.numbers.get(peer) {
-            Some(list) => self.shelf.bytes(*list),
+            Some(list) => self.shelf.bytes(*list) as u64,
             None => 0,
         }
     }
 
     /// Returns the digests on the list of `peer`, newest first.
     pub fn list(&self, alloc: Global, peer: &P) -> Result<Vec<M::Digest>, AllocError>
+        ensures lawful { Lawful (same_by P.cmp M.Digest.cmp) self.now }
         ensures digests { IfOk result (λ digests. digests.items
-            ≡ digests_of (items_at (eq_by_cmp P.cmp) peer.now self.now.lists)) }
-        ensures succeeds_on_empty { items_at (eq_by_cmp P.cmp) peer.now self.now.lists ≡ []
-            → IsOk result }
+            ≡ digests_of (items_at (eq_by_cmp P.cmp) peer.now self.now.shelf.stored.lists)) }
+        ensures succeeds_on_empty { let lists = self.now.shelf.stored.lists in
+            items_at (eq_by_cmp P.cmp) peer.now lists ≡ [] → IsOk result }
         ensures distinct { IsDistinct (same_charged (eq_by_cmp M.Digest.cmp))
-            (items_at (eq_by_cmp P.cmp) peer.now self.now.lists) }
+            (items_at (eq_by_cmp P.cmp) peer.now self.now.shelf.stored.lists) }
     {
         match self.numbers.get(peer) {
             Some(list) => self.shelf.list(alloc, *list),
@@ -209,9 +246,10 @@ impl<P: PublicKey, M: Digestible> Cache<P, M> {
     /// Copies the digests on the list of `peer` to the front of `out`, newest first, as many as
     /// there are places for. Returns how many digests are on the list.
     pub fn list_into(&self, peer: &P, out: &mut [M::Digest]) -> usize
-        ensures len { result ≡ length (items_at (eq_by_cmp P.cmp) peer.now self.now.lists) }
+        ensures len { let lists = self.now.shelf.stored.lists in
+            result ≡ length (items_at (eq_by_cmp P.cmp) peer.now lists) }
         ensures digests { out.new ≡ overlaid
-            (digests_of (items_at (eq_by_cmp P.cmp) peer.now self.now.lists)) out.old }
+            (digests_of (items_at (eq_by_cmp P.cmp) peer.now self.now.shelf.stored.lists)) out.old }
     {
         match self.numbers.get(peer) {
             Some(list) => self.shelf.list_into(*list, out),
@@ -219,42 +257,64 @@ impl<P: PublicKey, M: Digestible> Cache<P, M> {
         }
     }
 
-    /// Drops the lists of those peers of `was` that are not among `peers`. The messages that leave
-    /// are added to `left`.
-    pub fn retain_peers(&mut self, was: &[P], peers: &Set<P>, left: &mut Left<M>)
-        requires { HasRoom (length self.old.messages) left.old }
-        ensures dropped { Drops (same_by P.cmp M.Digest.cmp) was.now peers.now self.old self.new }
-        ensures left { Adds (eq_by_cmp M.Digest.cmp) self.old.messages self.new.messages
-            left.old left.new }
-        ensures left_room { HasRoom (length self.new.messages) left.new }
+    /// Makes `peers` the primary keys, and drops the lists of all other keys.
+    pub fn update_primary_peers(&mut self, peers: Set<P>)
+        ensures lawful { Lawful (same_by P.cmp M.Digest.cmp) self.old }
+        ensures primary { self.new.primary ≡ peers }
+        ensures dropped { Drops (same_by P.cmp M.Digest.cmp) self.old.primary peers
+            self.old.shelf.stored self.new.shelf.stored }
+        ensures sheds { Sheds (eq_by_cmp M.Digest.cmp) self.old.shelf self.new.shelf }
     {
-        let mut at = 0;
-        for peer in was {
-            let (next, is_there) = peers.seek(at, peer);
-            at = next;
-            if !is_there {
-                self.remove(peer, left);
-            }
-        }
-        // A message is there exactly if its digest is on a list: so says the shelf.
-        let _shelf = &self.shelf;
+        drop_lists(
+            &mut self.numbers,
+            &mut self.shelf,
+            self.primary.as_slice(),
+            &peers,
+        );
+        self.primary = peers;
     }
+}
 
-    /// Drops the list of `peer`.
-    fn remove(&mut self, peer: &P, left: &mut Left<M>)
-        requires { HasRoom (length self.old.messages) left.old }
-        ensures dropped { Drops (same_by P.cmp M.Digest.cmp) (peer.now ∷ []) [] self.old self.new }
-        ensures left { Adds (eq_by_cmp M.Digest.cmp) self.old.messages self.new.messages
-            left.old left.new }
-        ensures left_room { HasRoom (length self.new.messages) left.new }
-    {
-        let list = self.numbers.remove(peer);
-        // The peers ascend: so says `len`.
-        let _peers = self.numbers.len();
-        match list {
-            Some(list) => self.shelf.remove(list, left),
-            None => {}
+/// Drops the lists of those peers of `was` that are not among `peers`.
+fn drop_lists<P: PublicKey, M: Digestible>(
+    numbers: &mut Parts<P, usize>,
+    shelf: &mut Shelf<M>,
+    was: &[P],
+    peers: &Set<P>,
+)
+    requires { IsNumbered P.cmp M.Digest.cmp numbers.old shelf.old.stored }
+    ensures numbered { IsNumbered P.cmp M.Digest.cmp numbers.new shelf.new.stored }
+    ensures dropped { Drops (same_by P.cmp M.Digest.cmp) was.now peers.now
+        (named_of numbers.old shelf.old.stored) (named_of numbers.new shelf.new.stored) }
+    ensures sheds { Sheds (eq_by_cmp M.Digest.cmp) shelf.old shelf.new }
+{
+    let mut at = 0;
+    for peer in was {
+        let (next, is_there) = peers.seek(at, peer);
+        at = next;
+        if !is_there {
+            drop_list(numbers, shelf, peer);
         }
+    }
+}
+
+/// Drops the list of `peer`.
+fn drop_list<P: PublicKey, M: Digestible>(
+    numbers: &mut Parts<P, usize>,
+    shelf: &mut Shelf<M>,
+    peer: &P,
+)
+    requires { IsNumbered P.cmp M.Digest.cmp numbers.old shelf.old.stored }
+    ensures numbered { IsNumbered P.cmp M.Digest.cmp numbers.new shelf.new.stored }
+    ensures dropped { Drops (same_by P.cmp M.Digest.cmp) (peer.now ∷ []) []
+        (named_of numbers.old shelf.old.stored) (named_of numbers.new shelf.new.stored) }
+    ensures sheds { Sheds (eq_by_cmp M.Digest.cmp) shelf.old shelf.new }
+{
+    let list = numbers.remove(peer);
+    // The peers ascend: so says `len`.
+    let _peers = numbers.len();
+    if let Some(list) = list {
+        shelf.remove(list);
     }
 }
 

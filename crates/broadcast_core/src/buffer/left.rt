@@ -1,8 +1,12 @@
 //! The messages that left a cache.
-ghost use Rattle.std.specs.Prelude.{◌≡◌, ◌++◌, ◌∷◌, [], OnOk, IfSome, Some, None, unwrap_or, length};
+ghost use Rattle.std.specs.Prelude.{◌≡◌, ◌++◌, ◌∷◌, [], if◌then◌else◌, OnOk, IfSome, Some, None, unwrap_or, length};
 ghost use Rattle.std.specs.Option.{option_map, option_to_list};
+ghost use Rattle.std.specs.Ordering.{eq_by_cmp};
+ghost use Rattle.entries.specs.Table.{items_of, messages_of, Takes};
+ghost use Rattle.broadcast_core.specs.Left.{Adds, HasRoom};
 
 use crate::digested::{Digested, Digestible};
+use entries::Table;
 use std::alloc::{AllocError, Global};
 use std::marker::Model;
 
@@ -29,19 +33,12 @@ impl<M: Digestible> Model for Left<M> {
 impl<M: Digestible> Left<M> {
     ghost use Rattle.broadcast_core.specs.Left.{HasRoom, Widens};
 
-    /// Creates one that keeps nothing. Does not allocate.
-    pub fn off() -> Self
-        ensures { result.items ≡ None }
-    {
-        Left { kept: None }
-    }
-
-    /// Creates one that keeps each message. Does not allocate.
-    pub fn on(alloc: Global) -> Self
-        ensures { result.items ≡ Some [] }
+    /// Creates one that keeps each message, or none. Does not allocate.
+    pub fn new(alloc: Global, is_on: bool) -> Self
+        ensures { result.items ≡ (if is_on then Some [] else None) }
     {
         Left {
-            kept: Some(Vec::new(alloc)),
+            kept: if is_on { Some(Vec::new(alloc)) } else { None },
         }
     }
 
@@ -88,5 +85,26 @@ impl<M: Digestible> Left<M> {
             Some(kept) => kept.pop(),
             None => None,
         }
+    }
+}
+
+/// Removes the place of the list from an item. A message that leaves with its last place is added
+/// to `left`.
+pub fn leave<M: Digestible>(
+    table: &mut Table<Digested<M>>,
+    item: usize,
+    list: usize,
+    left: &mut Left<M>,
+)
+    requires { HasRoom (length (messages_of (items_of table.old))) left.old }
+    ensures taken { Takes M.Digest.cmp (λ m. m.digest) item list table.old table.new }
+    ensures left { Adds (eq_by_cmp M.Digest.cmp) (messages_of (items_of table.old))
+        (messages_of (items_of table.new)) left.old.items left.new.items }
+    ensures room { HasRoom (length (messages_of (items_of table.new))) left.new }
+{
+    // The names differ: so says `len`.
+    let _names = table.len();
+    if let Some(message) = table.remove(item, list) {
+        left.push(message);
     }
 }

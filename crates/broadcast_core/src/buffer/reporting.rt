@@ -1,15 +1,17 @@
 //! A core that reports which messages left it.
-ghost use Rattle.std.specs.Prelude.{◌≡◌, ◌++◌, [], length, None, IfOk, IfErr, OnErr};
-ghost use Rattle.std.specs.List.{count_by};
-ghost use Rattle.std.specs.Option.{option_map, option_to_list};
-ghost use Rattle.broadcast_core.specs.Content.{same_by, waiting_at};
+ghost use Rattle.std.specs.Prelude.{◌≡◌, ◌≤◌, ◌*◌, ◌++◌, [], length, None, IfOk, IfErr, OnErr};
+ghost use Rattle.std.specs.List.{count_by, IsDistinct};
+ghost use Rattle.std.specs.Map.{keys_of};
+ghost use Rattle.std.specs.Option.{option_copied, option_map, option_to_list};
+ghost use Rattle.std.specs.Ordering.{eq_by_cmp};
+ghost use Rattle.entries.specs.Overlaid.{overlaid};
+ghost use Rattle.broadcast_core.specs.Content.{same_by, bytes_of, charged_at, list_at, message_at, waiting_at};
 ghost use Rattle.broadcast_core.specs.Empty.{empty};
 ghost use Rattle.broadcast_core.specs.Changes.{IsTaken, TakesPeers, Cleans, CleansAt, IsSubscribed};
-ghost use Rattle.broadcast_core.specs.Waiters.{is_gone, gone_from};
+ghost use Rattle.broadcast_core.specs.Waiters.{NoneEmpty, is_gone, gone_from};
 ghost use Rattle.broadcast_core.specs.Counted.{counted};
 
-use crate::buffer::Core;
-use crate::buffer::left::Left;
+use crate::buffer::state::State;
 use crate::codec::EncodeSize;
 use crate::digested::{Digested, Digestible};
 use crate::ordered::{PublicKey, Set};
@@ -18,26 +20,28 @@ use crate::requests::Ticketed;
 use std::alloc::{AllocError, AllocFailed, Global};
 use std::marker::Model;
 
-/// A core, with the messages that left it and that it has not reported yet.
+/// A core whose shelf keeps the messages that left, until it has reported them.
 ///
 /// A message leaves when its digest leaves the last list. [`Reporting::pop_left`] reports it, once.
 #[derive(Drop)]
 pub struct Reporting<P: PublicKey, M: Digestible, W> {
-    core: Core<P, M, W>,
-    left: Left<M>,
+    own: P,
+    state: State<P, M, W>,
 }
 
 impl<P: PublicKey, M: Digestible, W> Model for Reporting<P, M, W> {
-    ghost use Rattle.std.specs.Prelude.{◌≡◌, [], length, is_some, true, unwrap_or};
-    ghost use Rattle.broadcast_core.specs.Left.{HasRoom};
+    ghost use Rattle.std.specs.Prelude.{◌≡◌, [], is_some, true, unwrap_or};
     ghost use Rattle.broadcast_core.specs.Reports.{Reported};
+    ghost use Rattle.broadcast_core.specs.Stored.{with_own};
 
     ghost Value = { Reported P M M.Digest W };
 
-    ghost view = { λ it. record { core = it.core; left = unwrap_or it.left.items [] } };
+    ghost view = { λ it. record {
+      core = with_own it.own it.state;
+      left = unwrap_or it.state.cache.shelf.left [];
+    } };
 
-    ghost invariant = { λ it. (is_some it.left.items ≡ true)
-        × HasRoom (length it.core.cached) it.left };
+    ghost invariant = { λ it. is_some it.state.cache.shelf.left ≡ true };
 }
 
 impl<P: PublicKey, M: Digestible, W: Drop> Reporting<P, M, W> {
@@ -49,16 +53,61 @@ impl<P: PublicKey, M: Digestible, W: Drop> Reporting<P, M, W> {
         ensures left { result.left ≡ [] }
     {
         Reporting {
-            core: Core::new(alloc, own, deque_size, byte_budget),
-            left: Left::on(alloc),
+            own,
+            state: State::new(alloc, deque_size, byte_budget, true),
         }
     }
 
-    /// Returns the core.
-    pub fn core(&self) -> &Core<P, M, W>
-        ensures { result.now ≡ self.now.core }
+    /// Returns the primary keys.
+    pub fn primary(&self) -> &Set<P>
+        ensures { result.now ≡ self.now.core.primary }
     {
-        &self.core
+        self.state.cache.primary()
+    }
+
+    /// Returns the number of cached messages, as [`Core::cached_len`] does.
+    pub fn cached_len(&self) -> usize
+        ensures len { result ≡ length self.now.core.cached }
+        ensures distinct { IsDistinct (eq_by_cmp M.Digest.cmp) (keys_of self.now.core.cached) }
+        ensures bounded { result ≤ length self.now.core.primary * self.now.core.deque_size }
+    {
+        self.state.cache.len()
+    }
+
+    /// Returns the number of digests that have waiters, as [`Core::awaited`] does.
+    pub fn awaited(&self) -> usize
+        ensures len { result ≡ length self.now.core.waiters }
+        ensures distinct { IsDistinct (eq_by_cmp M.Digest.cmp) (keys_of self.now.core.waiters) }
+        ensures none_empty { NoneEmpty (eq_by_cmp M.Digest.cmp) self.now.core.waiters }
+    {
+        self.state.waiters.len()
+    }
+
+    /// Returns the cached message of `digest`, as [`Core::get`] does.
+    pub fn get(&self, digest: &M::Digest) -> Option<&Digested<M>>
+        ensures { let same = same_by P.cmp M.Digest.cmp in
+            option_copied result ≡ message_at same self.now.core digest.now }
+    {
+        self.state.cache.get(digest)
+    }
+
+    /// Returns what the list of `peer` is charged, as [`Core::bytes`] does.
+    pub fn bytes(&self, peer: &P) -> u64
+        ensures sum { let same = same_by P.cmp M.Digest.cmp in
+            result ≡ bytes_of (charged_at same self.now.core peer.now) }
+        ensures bounded { result ≤ self.now.core.byte_budget }
+    {
+        self.state.cache.bytes(peer)
+    }
+
+    /// Copies the digests on the list of `peer`, as [`Core::list_into`] does.
+    pub fn list_into(&self, peer: &P, out: &mut [M::Digest]) -> usize
+        ensures len { let same = same_by P.cmp M.Digest.cmp in
+            result ≡ length (list_at same self.now.core peer.now) }
+        ensures digests { let same = same_by P.cmp M.Digest.cmp in
+            out.new ≡ overlaid (list_at same self.now.core peer.now) out.old }
+    {
+        self.state.cache.list_into(peer, out)
     }
 
     /// Makes `peers` the primary keys, as [`Core::update_primary_peers`] does.
@@ -66,7 +115,7 @@ impl<P: PublicKey, M: Digestible, W: Drop> Reporting<P, M, W> {
         ensures taken { TakesPeers (same_by P.cmp M.Digest.cmp) peers self.old.core self.new.core }
         ensures left { Reports (same_by P.cmp M.Digest.cmp) self.old self.new }
     {
-        self.core.update_primary_peers_into(peers, &mut self.left);
+        self.state.update_primary_peers(peers);
     }
 
     /// Takes `message` under the key `peer`, as [`Core::take`] does.
@@ -79,14 +128,14 @@ impl<P: PublicKey, M: Digestible, W: Drop> Reporting<P, M, W> {
         ensures left { Reports (same_by P.cmp M.Digest.cmp) self.old self.new }
         ensures err { OnErr result (self.new ≡ self.old) }
     {
-        self.core.take_into(peer, message, &mut self.left)
+        self.state.take(peer, message)
     }
 
     /// Returns the number of messages that left and were not reported yet.
     pub fn left_len(&self) -> usize
         ensures { result ≡ length self.now.left }
     {
-        self.left.len()
+        self.state.cache.left_len()
     }
 
     /// Reports the message that left last, if one was not reported yet. Does not allocate.
@@ -95,7 +144,7 @@ impl<P: PublicKey, M: Digestible, W: Drop> Reporting<P, M, W> {
         ensures empty { result ≡ None → self.old.left ≡ [] }
         ensures core { self.new.core ≡ self.old.core }
     {
-        self.left.pop()
+        self.state.cache.pop_left()
     }
 
     /// Returns `waiter` with the cached message, or lets it wait, as [`Core::subscribe`] does.
@@ -110,7 +159,7 @@ impl<P: PublicKey, M: Digestible, W: Drop> Reporting<P, M, W> {
             × (self.new.core ≡ self.old.core)) }
         ensures left { self.new.left ≡ self.old.left }
     {
-        self.core.subscribe(digest, waiter)
+        self.state.subscribe(digest, waiter)
     }
 
     /// Drops every waiter whose ticket is in `gone`, as [`Core::cleanup`] does.
@@ -122,7 +171,7 @@ impl<P: PublicKey, M: Digestible, W: Drop> Reporting<P, M, W> {
         ensures removed { result ≡ counted (gone_from W.ticket_of gone.now self.old.core.waiters) }
         ensures left { self.new.left ≡ self.old.left }
     {
-        self.core.cleanup(gone)
+        self.state.waiters.cleanup(gone)
     }
 
     /// Drops the waiters of `digest` whose tickets are in `gone`, as [`Core::cleanup_of`] does.
@@ -135,6 +184,6 @@ impl<P: PublicKey, M: Digestible, W: Drop> Reporting<P, M, W> {
             (waiting_at (same_by P.cmp M.Digest.cmp) self.old.core digest.now) }
         ensures left { self.new.left ≡ self.old.left }
     {
-        self.core.cleanup_of(digest, gone)
+        self.state.waiters.cleanup_of(digest, gone)
     }
 }

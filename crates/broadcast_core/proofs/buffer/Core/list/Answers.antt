@@ -9,13 +9,13 @@ use Rattle.broadcast_core.proofs.buffer.Core.list.Goals as goal
 pub returns-clause-cached : goal.returns-clause-cached
 returns-clause-cached g c =
     let same = same_by g.P.Ord.cmp g.M.Digest.Ord.cmp in
-    let st = c.self-inside.inside.0.1.0 in
+    let st = c.self-inside.inside.0.1.0.cache in
     let laws = eq_by_cmp_equiv (g.met.M.Digest.Ord g.world.𝓛 g.world.𝓜 g.world.𝓡 (λ s x. x, λ x. x, λ x. x, λ x. x)).total in
-    let lists = st.cache.lists in
+    let lists = st.shelf.stored.lists in
     let digests = digests_of (items_at same.key c.args.peer.now lists) in
     rw (← c.self.view_is, ← c.self-inside.view_is) (λ i other h.
     let d = slice_index_or digests i other in
-    c.self-inside.invariant.messages d ∙ stored-at same c.args.peer.now d lists (sym (among-names same.digest d (items_at same.key c.args.peer.now lists)) ∙ list_any_at (same.digest d) digests i other h (laws.refl d)))
+    c.list.ensures.lawful.messages d ∙ stored-at same c.args.peer.now d lists (sym (among-names same.digest d (items_at same.key c.args.peer.now lists)) ∙ list_any_at (same.digest d) digests i other h (laws.refl d)))
 
 pub returns-clause-distinct : goal.returns-clause-distinct
 returns-clause-distinct g c =

@@ -2,6 +2,3 @@ use Rattle.broadcast_core.proofs.buffer.Core.take_own.Goals as goal
 
 pub returns : goal.returns
 returns g c = rw (← c.self.view_is) (c.take.ensures.taken c.self.inside.own)
-
-pub take-requires-after_bounds : goal.take-requires-after_bounds
-take-requires-after_bounds g c κs within = rw c.off.ensures tt

@@ -1,21 +1,19 @@
-use Rattle.std.specs.Cmp.{eq_by_cmp_equiv}
+use Rattle.std.proofs.Common.{refl}
 use Rattle.broadcast_core.specs.Content.{same_by}
-use Rattle.broadcast_core.proofs.Parting.{Reports-added, refused-stays, still-on}
+use Rattle.broadcast_core.specs.Stored.{with_own}
+use Rattle.broadcast_core.proofs.Parting.{Reports-added, still-on}
+use Rattle.broadcast_core.proofs.Taking.{on_err}
 use Rattle.broadcast_core.proofs.buffer.reporting.Reporting.take.Goals as goal
 
-pub take_into-requires-after_bounds : goal.take_into-requires-after_bounds
-take_into-requires-after_bounds g c κs within = c.self.invariant.1
-
 pub invariant_of-self : goal.invariant_of-self
-invariant_of-self g c = (still-on c.self.inside.left c.take_into.new.left c.self.invariant.0 c.take_into.ensures.left, c.take_into.ensures.left_room)
+invariant_of-self g c = still-on c.self.inside.state.cache.shelf.left c.take.new.self.cache.shelf.left c.self.invariant c.take.ensures.sheds.left
 
 pub returns-clause-taken : goal.returns-clause-taken
-returns-clause-taken g c = rw (← c.self.view_is) c.take_into.ensures.taken
+returns-clause-taken g c = rw (← c.self.view_is) (c.take.ensures.taken c.self.inside.own)
 
 pub returns-clause-left : goal.returns-clause-left
-returns-clause-left g c = rw (← c.self.view_is) (Reports-added (same_by g.P.Ord.cmp g.M.Digest.Ord.cmp) c.self.inside.core c.take_into.new.self c.self.inside.left c.take_into.new.left c.self.invariant.0 c.take_into.ensures.left)
+returns-clause-left g c = rw (← c.self.view_is) (Reports-added (same_by g.P.Ord.cmp g.M.Digest.Ord.cmp) (with_own c.self.inside.own c.self.inside.state) (with_own c.self.inside.own c.take.new.self)
+    c.self.inside.state.cache.shelf.left c.take.new.self.cache.shelf.left c.self.invariant c.take.ensures.sheds.left)
 
 pub returns-clause-err : goal.returns-clause-err
-returns-clause-err g c =
-    let laws = eq_by_cmp_equiv (g.met.M.Digest.Ord g.world.𝓛 g.world.𝓜 g.world.𝓡 (λ s x. x, λ x. x, λ x. x, λ x. x)).total in
-    rw (← c.self.view_is) (refused-stays laws c.take_into.result c.self.inside.core c.take_into.new.self c.self.inside.left c.take_into.new.left c.take_into.ensures.taken.err c.take_into.ensures.left)
+returns-clause-err g c = rw (← c.self.view_is) (on_err c.take.result (λ is. rw is refl) c.take.ensures.err)

@@ -1,15 +1,14 @@
 use Rattle.broadcast_core.specs.Content.{same_by}
+use Rattle.broadcast_core.specs.Stored.{with_own}
 use Rattle.broadcast_core.proofs.Parting.{Reports-added, still-on}
 use Rattle.broadcast_core.proofs.buffer.reporting.Reporting.update_primary_peers.Goals as goal
 
-pub update_primary_peers_into-requires-after_bounds : goal.update_primary_peers_into-requires-after_bounds
-update_primary_peers_into-requires-after_bounds g c κs within = c.self.invariant.1
-
 pub invariant_of-self : goal.invariant_of-self
-invariant_of-self g c = (still-on c.self.inside.left c.update_primary_peers_into.new.left c.self.invariant.0 c.update_primary_peers_into.ensures.left, c.update_primary_peers_into.ensures.left_room)
+invariant_of-self g c = still-on c.self.inside.state.cache.shelf.left c.update_primary_peers.new.self.cache.shelf.left c.self.invariant c.update_primary_peers.ensures.sheds.left
 
 pub returns-clause-taken : goal.returns-clause-taken
-returns-clause-taken g c = rw (← c.self.view_is) c.update_primary_peers_into.ensures.taken
+returns-clause-taken g c = rw (← c.self.view_is) (c.update_primary_peers.ensures.taken c.self.inside.own)
 
 pub returns-clause-left : goal.returns-clause-left
-returns-clause-left g c = rw (← c.self.view_is) (Reports-added (same_by g.P.Ord.cmp g.M.Digest.Ord.cmp) c.self.inside.core c.update_primary_peers_into.new.self c.self.inside.left c.update_primary_peers_into.new.left c.self.invariant.0 c.update_primary_peers_into.ensures.left)
+returns-clause-left g c = rw (← c.self.view_is) (Reports-added (same_by g.P.Ord.cmp g.M.Digest.Ord.cmp) (with_own c.self.inside.own c.self.inside.state) (with_own c.self.inside.own c.update_primary_peers.new.self)
+    c.self.inside.state.cache.shelf.left c.update_primary_peers.new.self.cache.shelf.left c.self.invariant c.update_primary_peers.ensures.sheds.left)

@@ -17,7 +17,7 @@ remove-requires g c =
     let names = names_of c.self.inside.table in
     let lists = named_lists names c.self.inside.lists.lists in
     let none = no-digests _ (sym (items_at-digests same_number c.args.list lists) ∙ (rw (← c.self.view_is) at c.requires.empty)) in
-    none-named names (items_at same_number c.args.list c.self.inside.lists.lists) (c.self.invariant.named c.args.list) (sym (items_at-named names same_number c.args.list c.self.inside.lists.lists) ∙ none)
+    none-named names (items_at same_number c.args.list c.self.inside.lists.lists) (c.self.invariant.0.named c.args.list) (sym (items_at-named names same_number c.args.list c.self.inside.lists.lists) ∙ none)
 
 pub invariant_of-self : goal.invariant_of-self
 invariant_of-self g c =
@@ -25,14 +25,16 @@ invariant_of-self g c =
     let names = names_of c.self.inside.table in
     let lists = named_lists names c.self.inside.lists.lists in
     let removes = Removes-named names same_number c.args.list c.self.inside.lists.lists c.remove.new.self.lists c.remove.ensures in
-    let empty = no-digests _ (sym (items_at-digests same_number c.args.list lists) ∙ (rw (← c.self.view_is) at c.requires.empty)) in
-    record {
-      indexed = IsIndexed-closed (same_listed g.M.Digest.Ord.cmp) number_laws laws c.args.list lists (named_lists names c.remove.new.self.lists) (items_of c.self.inside.table) c.self.invariant.indexed empty removes.lists removes.distinct;
-      named = AllNamed-removes names same_number c.args.list c.self.inside.lists.lists c.remove.new.self.lists c.remove.ensures c.self.invariant.named;
-    }
+    let empty = no-digests _ (sym (items_at-digests same_number c.args.list lists) ∙ (rw (← c.self.view_is) at c.requires.empty)) in (
+      record {
+        indexed = IsIndexed-closed (same_listed g.M.Digest.Ord.cmp) number_laws laws c.args.list lists (named_lists names c.remove.new.self.lists) (items_of c.self.inside.table) c.self.invariant.0.indexed empty removes.lists removes.distinct;
+        named = AllNamed-removes names same_number c.args.list c.self.inside.lists.lists c.remove.new.self.lists c.remove.ensures c.self.invariant.0.named;
+      },
+      c.self.invariant.1,
+    )
 
-pub returns : goal.returns
-returns g c =
+pub returns-clause-closed : goal.returns-clause-closed
+returns-clause-closed g c =
     let names = names_of c.self.inside.table in
     let lists = named_lists names c.self.inside.lists.lists in
     let new_lists = named_lists names c.remove.new.self.lists in
@@ -47,3 +49,6 @@ returns g c =
       distinct = distinct-digests same_number new_lists removes.distinct;
       messages = refl;
     })
+
+pub returns-clause-rest : goal.returns-clause-rest
+returns-clause-rest g c = rw (← c.self.view_is) (record { deque_size = refl; byte_budget = refl; left = refl })

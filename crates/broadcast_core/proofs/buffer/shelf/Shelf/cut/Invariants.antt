@@ -1,4 +1,4 @@
-use Rattle.std.proofs.Common.{length}
+use Rattle.std.proofs.Common.{◌≡◌, length}
 use Rattle.std.specs.Ordering.{eq_by_cmp}
 use Rattle.entries.specs.Overlaid.{same_number}
 use Rattle.entries.specs.Store.{items_at}
@@ -13,10 +13,11 @@ abbrev pub invariant-loop-stale : goal.invariant-loop-stale
 invariant-loop-stale g l =
     let old = l.initial.self-inside in
     let now = l.self-inside in
-    Shortening (same_listed g.M.Digest.Ord.cmp) l.list l.byte_budget (named_lists (names_of old.table) old.lists.lists) (named_lists (names_of now.table) now.lists.lists) (items_of old.table) (items_of now.table)
+    Shortening (same_listed g.M.Digest.Ord.cmp) l.list l.initial.self-inside.byte_budget (named_lists (names_of old.table) old.lists.lists) (named_lists (names_of now.table) now.lists.lists) (items_of old.table) (items_of now.table)
     × AllNamed (names_of now.table) same_number now.lists.lists
-    × Adds (eq_by_cmp g.M.Digest.Ord.cmp) (messages_of (items_of old.table)) (messages_of (items_of now.table)) l.fn.left l.left
-    × HasRoom (length (messages_of (items_of now.table))) l.left
+    × Adds (eq_by_cmp g.M.Digest.Ord.cmp) (messages_of (items_of old.table)) (messages_of (items_of now.table)) old.left.items now.left.items
+    × HasRoom (length (messages_of (items_of now.table))) now.left
+    × (now.deque_size ≡ old.deque_size) × (now.byte_budget ≡ old.byte_budget)
 
 abbrev pub decreases-loop-stale : goal.decreases-loop-stale
 decreases-loop-stale g l = length (items_at same_number l.list l.self-inside.lists.lists)

@@ -14,5 +14,5 @@ pub returns-clause-message : goal.returns-clause-message
 returns-clause-message g c = rw (← c.self.view_is) (c.get.ensures ∙ sym (lookup-messages (eq_by_cmp g.M.Digest.Ord.cmp c.args.digest.now) (items_of c.self.inside.table)))
 
 pub returns-clause-named : goal.returns-clause-named
-returns-clause-named g c = named_is c.get.result (λ x there. c.self.invariant.indexed.named c.args.digest.now x
+returns-clause-named g c = named_is c.get.result (λ x there. c.self.invariant.0.indexed.named c.args.digest.now x
     (lookup-messages (eq_by_cmp g.M.Digest.Ord.cmp c.args.digest.now) (items_of c.self.inside.table) ∙ sym c.get.ensures ∙ there))

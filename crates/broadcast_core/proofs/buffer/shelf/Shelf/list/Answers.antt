@@ -15,25 +15,25 @@ returns-then-len-eq0-clause-digests g c =
 
 pub returns-then-len-eq0-clause-distinct : goal.returns-then-len-eq0-clause-distinct
 returns-then-len-eq0-clause-distinct g c =
-    rw (← c.self.view_is, items_at-digests same_number c.args.list (named_lists (names_of c.self.inside.table) c.self.inside.lists.lists)) (c.self.invariant.indexed.distinct c.args.list)
+    rw (← c.self.view_is, items_at-digests same_number c.args.list (named_lists (names_of c.self.inside.table) c.self.inside.lists.lists)) (c.self.invariant.0.indexed.distinct c.args.list)
 
 pub returns-in_err-digests-clause-succeeds_on_empty : goal.returns-in_err-digests-clause-succeeds_on_empty
 returns-in_err-digests-clause-succeeds_on_empty g c =
-    let is = length-listed (names_of c.self.inside.table) same_number c.args.list c.self.inside.lists.lists c.self.invariant.named in
+    let is = length-listed (names_of c.self.inside.table) same_number c.args.list c.self.inside.lists.lists c.self.invariant.0.named in
     rw (← c.self.view_is) (λ none. absurd (omega (arith, c.if-len-eq0.false, c.count-len.ensures, is, ap length none)))
 
 pub returns-in_err-digests-clause-distinct : goal.returns-in_err-digests-clause-distinct
 returns-in_err-digests-clause-distinct g c =
-    rw (← c.self.view_is, items_at-digests same_number c.args.list (named_lists (names_of c.self.inside.table) c.self.inside.lists.lists)) (c.self.invariant.indexed.distinct c.args.list)
+    rw (← c.self.view_is, items_at-digests same_number c.args.list (named_lists (names_of c.self.inside.table) c.self.inside.lists.lists)) (c.self.invariant.0.indexed.distinct c.args.list)
 
 pub returns-in_err-push-clause-succeeds_on_empty : goal.returns-in_err-push-clause-succeeds_on_empty
 returns-in_err-push-clause-succeeds_on_empty g c =
-    let is = length-listed (names_of c.self.inside.table) same_number c.args.list c.self.inside.lists.lists c.self.invariant.named in
+    let is = length-listed (names_of c.self.inside.table) same_number c.args.list c.self.inside.lists.lists c.self.invariant.0.named in
     rw (← c.self.view_is) (λ none. absurd (omega (arith, c.if-len-eq0.false, c.count-len.ensures, is, ap length none)))
 
 pub returns-in_err-push-clause-distinct : goal.returns-in_err-push-clause-distinct
 returns-in_err-push-clause-distinct g c =
-    rw (← c.self.view_is, items_at-digests same_number c.args.list (named_lists (names_of c.self.inside.table) c.self.inside.lists.lists)) (c.self.invariant.indexed.distinct c.args.list)
+    rw (← c.self.view_is, items_at-digests same_number c.args.list (named_lists (names_of c.self.inside.table) c.self.inside.lists.lists)) (c.self.invariant.0.indexed.distinct c.args.list)
 
 pub returns-clause-digests : goal.returns-clause-digests
 returns-clause-digests g c =
@@ -43,4 +43,4 @@ returns-clause-digests g c =
 
 pub returns-clause-distinct : goal.returns-clause-distinct
 returns-clause-distinct g c =
-    rw (← c.self.view_is, items_at-digests same_number c.args.list (named_lists (names_of c.self.inside.table) c.self.inside.lists.lists)) (c.self.invariant.indexed.distinct c.args.list)
+    rw (← c.self.view_is, items_at-digests same_number c.args.list (named_lists (names_of c.self.inside.table) c.self.inside.lists.lists)) (c.self.invariant.0.indexed.distinct c.args.list)

@@ -24,7 +24,7 @@ loop-i-preserved-in-Some-at g c =
     rw c.loop-i.invariant.0 (overlaid-next all c.args.out.now c.loop-i.i _ _ there (omega (arith, c.loop-i-test.true, room)), sym (drop-next all c.loop-i.i _ _ there))
 
 pub returns-clause-len : goal.returns-clause-len
-returns-clause-len g c = rw (← c.self.view_is) (c.count.ensures ∙ sym (length-listed (names_of c.self.inside.table) same_number c.args.list c.self.inside.lists.lists c.self.invariant.named))
+returns-clause-len g c = rw (← c.self.view_is) (c.count.ensures ∙ sym (length-listed (names_of c.self.inside.table) same_number c.args.list c.self.inside.lists.lists c.self.invariant.0.named))
 
 pub returns-clause-digests : goal.returns-clause-digests
 returns-clause-digests g c =

@@ -3,6 +3,7 @@ use Rattle.std.specs.List.{IsDistinct}
 use Rattle.broadcast_core.specs.Content.{Same}
 use Rattle.broadcast_core.specs.Numbered.{same_listed}
 use Rattle.broadcast_core.specs.Indexed.{IsShelved}
+use Rattle.broadcast_core.proofs.Parting.{room-none}
 use Rattle.broadcast_core.proofs.buffer.shelf.Shelf.new.Goals as goal
 
 empty : {P M D : Type 0} (same : Same P D) (names : ℕ → Option D) → IsShelved {M = M} same names [] []
@@ -19,4 +20,4 @@ empty same names = record {
 }
 
 pub invariant_of-result : goal.invariant_of-result
-invariant_of-result g c = rw (c.new.ensures, c.new-2.ensures) (empty (same_listed g.M.Digest.Ord.cmp) _)
+invariant_of-result g c = rw (c.new.ensures, c.new-2.ensures) (empty (same_listed g.M.Digest.Ord.cmp) _, room-none c.new-3.result c.args.reports c.new-3.ensures)

@@ -47,10 +47,16 @@ still digest order (Ok n) old new table was fresh puts err =
 still digest order (Err e) old new table was fresh puts err = subst (λ l. IsShelved (same_listed digest) (names_of table) l.lists (items_of table)) (sym err) was
 
 pub invariant_of-self : goal.invariant_of-self
-invariant_of-self g c = still g.M.Digest.Ord.cmp (g.met.M.Digest.Ord g.world.𝓛 g.world.𝓜 g.world.𝓡 (λ s x. x, λ x. x, λ x. x, λ x. x)).total c.open.result c.self.inside.lists c.open.new.self c.self.inside.table c.self.invariant
-    c.open.ensures.fresh c.open.ensures.ok c.open.ensures.err
+invariant_of-self g c = (
+  still g.M.Digest.Ord.cmp (g.met.M.Digest.Ord g.world.𝓛 g.world.𝓜 g.world.𝓡 (λ s x. x, λ x. x, λ x. x, λ x. x)).total c.open.result c.self.inside.lists c.open.new.self c.self.inside.table c.self.invariant.0
+      c.open.ensures.fresh c.open.ensures.ok c.open.ensures.err,
+  c.self.invariant.1,
+)
 
 pub returns-clause-ok : goal.returns-clause-ok
 returns-clause-ok g c =
     rw (← c.self.view_is) (opened g.M.Digest.Ord.cmp c.open.result c.self.inside.lists.lists c.open.new.self.lists c.self.inside.table
     c.open.ensures.fresh c.open.ensures.there c.open.ensures.ok)
+
+pub returns-clause-rest : goal.returns-clause-rest
+returns-clause-rest g c = rw (← c.self.view_is) (record { deque_size = refl; byte_budget = refl; left = refl })

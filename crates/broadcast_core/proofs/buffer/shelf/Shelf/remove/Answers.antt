@@ -16,10 +16,12 @@ use Rattle.broadcast_core.proofs.buffer.shelf.Shelf.remove.Goals as goal
 
 pub loop-stale-init : goal.loop-stale-init
 loop-stale-init g c = (
-  Clearing-start (same_listed g.M.Digest.Ord.cmp) c.args.list (named_lists (names_of c.self.inside.table) c.self.inside.lists.lists) (items_of c.self.inside.table) c.self.invariant.indexed,
-  c.self.invariant.named,
-  Adds-none (eq_by_cmp g.M.Digest.Ord.cmp) (messages_of (items_of c.self.inside.table)) c.args.left.now c.args.left.now refl,
-  rw (← c.self.view_is) at c.requires,
+  Clearing-start (same_listed g.M.Digest.Ord.cmp) c.args.list (named_lists (names_of c.self.inside.table) c.self.inside.lists.lists) (items_of c.self.inside.table) c.self.invariant.0.indexed,
+  c.self.invariant.0.named,
+  Adds-none (eq_by_cmp g.M.Digest.Ord.cmp) (messages_of (items_of c.self.inside.table)) c.self.inside.left.items c.self.inside.left.items refl,
+  c.self.invariant.1,
+  refl,
+  refl,
 )
 
 pub loop-stale-preserved : goal.loop-stale-preserved
@@ -34,9 +36,11 @@ loop-stale-preserved g c =
     (quits-item g.M.Digest.Ord.cmp c.in-Some.stale.digest c.args.list mid c.leave.new.table c.leave.ensures.taken) c.loop-stale.invariant.0 in (
       held.0,
       held.1,
-      Adds-fewer same.digest (messages_of (items_of c.self.inside.table)) (messages_of (items_of mid)) (messages_of (items_of c.leave.new.table)) c.args.left.now c.loop-stale.left c.leave.new.left
+      Adds-fewer same.digest (messages_of (items_of c.self.inside.table)) (messages_of (items_of mid)) (messages_of (items_of c.leave.new.table)) c.self.inside.left.items c.loop-stale.self-inside.left.items c.leave.new.left.items
           c.loop-stale.invariant.2 c.leave.ensures.left c.loop-stale.invariant.0.fewer (takes-fewer mid c.leave.new.table c.leave.ensures.taken),
       c.leave.ensures.room,
+      c.loop-stale.invariant.4,
+      c.loop-stale.invariant.5,
     )
 
 pub loop-stale-smaller : goal.loop-stale-smaller
@@ -50,13 +54,15 @@ invariant_of-self g c =
     let names = names_of c.loop-stale.self-inside.table in
     let items = items_of c.loop-stale.self-inside.table in
     let empty = items_at-named names same_number c.args.list c.loop-stale.self-inside.lists.lists ∙ ap (named_nodes names) c.in_default.ensures.0 in
-    let named = rw (sym c.in_default.ensures.1) at c.loop-stale.invariant.1 in
-    record {
-      indexed = (Clearing-end same key_laws laws c.args.list (named_lists (names_of c.self.inside.table) c.self.inside.lists.lists) (named_lists names c.loop-stale.self-inside.lists.lists) (named_lists names c.evict.new.self.lists)
-          (items_of c.self.inside.table) items items c.loop-stale.invariant.0 (named_lists names c.remove.new.self.lists) empty (ap (named_lists names) c.in_default.ensures.1)
-          (Removes-named names same_number c.args.list c.evict.new.self.lists c.remove.new.self.lists c.remove.ensures)).0;
-      named = AllNamed-removes names same_number c.args.list c.evict.new.self.lists c.remove.new.self.lists c.remove.ensures named;
-    }
+    let named = rw (sym c.in_default.ensures.1) at c.loop-stale.invariant.1 in (
+      record {
+        indexed = (Clearing-end same key_laws laws c.args.list (named_lists (names_of c.self.inside.table) c.self.inside.lists.lists) (named_lists names c.loop-stale.self-inside.lists.lists) (named_lists names c.evict.new.self.lists)
+            (items_of c.self.inside.table) items items c.loop-stale.invariant.0 (named_lists names c.remove.new.self.lists) empty (ap (named_lists names) c.in_default.ensures.1)
+            (Removes-named names same_number c.args.list c.evict.new.self.lists c.remove.new.self.lists c.remove.ensures)).0;
+        named = AllNamed-removes names same_number c.args.list c.evict.new.self.lists c.remove.new.self.lists c.remove.ensures named;
+      },
+      c.loop-stale.invariant.3,
+    )
 
 pub returns-clause-dropped : goal.returns-clause-dropped
 returns-clause-dropped g c =
@@ -75,5 +81,5 @@ returns-clause-dropped g c =
     rw (← c.self.view_is) (Drops-made same key_laws laws (c.args.list ∷ []) [] (stored_of old (items_of c.self.inside.table)) (stored_of gone items)
     (stored-cached same key_laws laws gone items cleared.0 distinct) distinct cleared.1)
 
-pub returns-clause-left : goal.returns-clause-left
-returns-clause-left g c = rw (← c.self.view_is) c.loop-stale.invariant.2
+pub returns-clause-sheds : goal.returns-clause-sheds
+returns-clause-sheds g c = rw (← c.self.view_is) (record { deque_size = c.loop-stale.invariant.4; byte_budget = c.loop-stale.invariant.5; left = c.loop-stale.invariant.2 })

@@ -1,46 +1,57 @@
 use Rattle.entries.proofs.Slots.{number_laws}
-use Rattle.std.proofs.Common.{refl, sym, subst, length, ◌≤◌, arith}
+use Rattle.std.proofs.Common.{refl, ap, ◌∙◌, arith}
 use Rattle.std.specs.Cmp.{eq_by_cmp_equiv}
 use Rattle.entries.specs.Table.{items_of, messages_of}
 use Rattle.broadcast_core.specs.Content.{items_at, bytes_of}
 use Rattle.broadcast_core.specs.Numbered.{same_listed}
 use Rattle.broadcast_core.specs.Indexed.{names_of, named_lists, shelved_of}
 use Rattle.std.specs.Ordering.{eq_by_cmp}
-use Rattle.broadcast_core.proofs.Parting.{Adds-none, Adds-cut}
+use Rattle.broadcast_core.proofs.Parting.{Sheds-none, Adds-cut}
 use Rattle.broadcast_core.proofs.Placing.{distinct-digests}
 use Rattle.broadcast_core.proofs.Filling.{Stores-nowhere}
 use Rattle.broadcast_core.proofs.Shortening.{Stores-fits, Stores-cut}
 use Rattle.broadcast_core.proofs.buffer.shelf.Shelf.take.Goals as goal
 
-pub returns-then-deque_size-eq0-clause-ok : goal.returns-then-deque_size-eq0-clause-ok
-returns-then-deque_size-eq0-clause-ok g c =
+pub returns-then-self-eq0-clause-ok : goal.returns-then-self-eq0-clause-ok
+returns-then-self-eq0-clause-ok g c =
     let same = same_listed g.M.Digest.Ord.cmp in
     let laws = eq_by_cmp_equiv (g.met.M.Digest.Ord g.world.𝓛 g.world.𝓜 g.world.𝓡 (λ s x. x, λ x. x, λ x. x, λ x. x)).total in
     let lists = named_lists (names_of c.self.inside.table) c.self.inside.lists.lists in
     let all = shelved_of c.self.inside.lists.lists c.self.inside.table in
-    let fits = subst (λ s. length (items_at same.key c.args.list s.lists) ≤ c.args.deque_size) (sym c.self.view_is) c.requires.size in
-    let room = subst (λ s. bytes_of (items_at same.key c.args.list s.lists) ≤ c.args.byte_budget) (sym c.self.view_is) c.requires.bytes in
-    let distinct = distinct-digests same.key lists c.self.invariant.indexed.apart in
-    rw (← c.self.view_is) (Stores-fits same number_laws c.args.list c.args.message.now _ c.args.byte_budget all all all
-    (Stores-nowhere same number_laws laws c.args.list c.args.message.now c.args.charge c.args.deque_size lists lists (items_of c.self.inside.table) c.self.invariant.indexed distinct distinct c.if-deque_size-eq0.true fits refl) room)
+    let fits = rw (← c.self.view_is) at c.requires.size in
+    let room = rw (← c.self.view_is) at c.requires.bytes in
+    let distinct = distinct-digests same.key lists c.self.invariant.0.indexed.apart in
+    rw (← c.self.view_is) (Stores-fits same number_laws c.args.list c.args.message.now _ c.self.inside.byte_budget all all all
+    (Stores-nowhere same number_laws laws c.args.list c.args.message.now c.args.charge c.self.inside.deque_size lists lists (items_of c.self.inside.table) c.self.invariant.0.indexed distinct distinct c.if-self-eq0.true fits refl) room)
+
+pub returns-then-self-eq0-clause-sheds : goal.returns-then-self-eq0-clause-sheds
+returns-then-self-eq0-clause-sheds g c = Sheds-none (eq_by_cmp g.M.Digest.Ord.cmp) c.args.self.now
+
+pub insert-requires-clause-room : goal.insert-requires-clause-room
+insert-requires-clause-room g c κs within = omega (arith, c.requires.bytes, ap (λ s. s.byte_budget) c.self.view_is, c.self.ranges.1.1.1.0.1)
 
 pub returns-then-bytes-from-clause-ok : goal.returns-then-bytes-from-clause-ok
 returns-then-bytes-from-clause-ok g c =
     let same = same_listed g.M.Digest.Ord.cmp in
-    Stores-cut same number_laws c.args.list c.args.message.now _ c.args.byte_budget c.args.self.now c.insert.new.self c.cut.new.self c.in_ok-listing.ensures.ok c.cut.ensures.cut
+    Stores-cut same number_laws c.args.list c.args.message.now _ c.args.self.now.byte_budget c.args.self.now.stored c.insert.new.self.stored c.cut.new.self.stored c.in_ok-listing.ensures.ok (rw c.insert.ensures.sheds.byte_budget at c.cut.ensures.cut)
 
 pub returns-else-bytes-from-clause-ok : goal.returns-else-bytes-from-clause-ok
 returns-else-bytes-from-clause-ok g c =
     let same = same_listed g.M.Digest.Ord.cmp in
-    Stores-fits same number_laws c.args.list c.args.message.now _ c.args.byte_budget c.args.self.now c.insert.new.self c.insert.new.self c.in_ok-listing.ensures.ok
-    (omega (arith, c.in_ok-listing.ensures.bytes, c.if-bytes-from.false, c.from.ensures))
+    Stores-fits same number_laws c.args.list c.args.message.now _ c.args.self.now.byte_budget c.args.self.now.stored c.insert.new.self.stored c.insert.new.self.stored c.in_ok-listing.ensures.ok
+    (omega (arith, c.in_ok-listing.ensures.bytes, c.if-bytes-from.false, c.from.ensures, ap (λ s. s.byte_budget) c.self-2.view_is, c.insert.ensures.sheds.byte_budget))
 
-pub returns-then-deque_size-eq0-clause-left : goal.returns-then-deque_size-eq0-clause-left
-returns-then-deque_size-eq0-clause-left g c = rw (← c.self.view_is) (Adds-none (eq_by_cmp g.M.Digest.Ord.cmp) (messages_of (items_of c.self.inside.table)) c.args.left.now c.args.left.now refl)
-
-pub returns-then-bytes-from-clause-left : goal.returns-then-bytes-from-clause-left
-returns-then-bytes-from-clause-left g c =
+pub returns-then-bytes-from-clause-sheds : goal.returns-then-bytes-from-clause-sheds
+returns-then-bytes-from-clause-sheds g c =
     let same = same_listed g.M.Digest.Ord.cmp in
     let laws = eq_by_cmp_equiv (g.met.M.Digest.Ord g.world.𝓛 g.world.𝓜 g.world.𝓡 (λ s x. x, λ x. x, λ x. x, λ x. x)).total in
-    Adds-cut same number_laws laws c.args.list c.args.message.now c.args.charge c.args.deque_size c.args.byte_budget _ c.args.self.now c.insert.new.self c.cut.new.self c.args.left.now c.insert.new.left c.cut.new.left
-    c.in_ok-listing.ensures.ok c.cut.ensures.cut (omega (arith, c.if-deque_size-eq0.false)) c.requires.affordable c.in_ok-listing.ensures.there c.insert.ensures.named c.insert.ensures.left c.cut.ensures.left
+    let old = c.args.self.now in
+    let mid = c.insert.new.self in
+    let new = c.cut.new.self in
+    record {
+      deque_size = c.cut.ensures.sheds.deque_size ∙ c.insert.ensures.sheds.deque_size;
+      byte_budget = c.cut.ensures.sheds.byte_budget ∙ c.insert.ensures.sheds.byte_budget;
+      left = Adds-cut same number_laws laws c.args.list c.args.message.now c.args.charge old.deque_size old.byte_budget _ old.stored mid.stored new.stored old.left mid.left new.left
+          c.in_ok-listing.ensures.ok (rw c.insert.ensures.sheds.byte_budget at c.cut.ensures.cut) (omega (arith, c.if-self-eq0.false, ap (λ s. s.deque_size) c.self.view_is)) c.requires.affordable c.in_ok-listing.ensures.there c.insert.ensures.named
+          c.insert.ensures.sheds.left c.cut.ensures.sheds.left;
+    }
