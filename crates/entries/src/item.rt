@@ -1,10 +1,11 @@
 //! A message with the places of its entries.
-ghost use Rattle.std.specs.Prelude.{◌≡◌, true, [], ◌∷◌, ◌++◌, Some, None, MatchBool, OnOk, OnErr, IfOk};
+ghost use Rattle.std.specs.Prelude.{◌≡◌, true, [], ◌∷◌, ◌++◌, List, Some, None, MatchBool, OnOk, OnErr, IfOk};
 ghost use Rattle.std.specs.Prelude.{IsSome, is_some, if◌then◌else◌, ℕ};
 ghost use Rattle.std.specs.Map.{lookup};
 ghost use Rattle.entries.specs.Overlaid.{same_number};
-ghost use Rattle.entries.specs.Placed.{first_place, with_first};
+ghost use Rattle.entries.specs.Placed.{all_places, near_place as near_of, Adds, Leaves};
 
+use crate::near::Near;
 use std::alloc::{AllocError, Global};
 use std::collections::BTreeMap;
 use std::marker::Model;
@@ -14,24 +15,28 @@ const FEW: usize = 8;
 
 /// A message, with the place of its entry by list.
 ///
-/// One place stands beside the others, so that a message with one place needs no allocation.
+/// Four places stand beside the others, so that a message with up to four needs no allocation.
 #[derive(Drop)]
 pub struct Item<T: Drop> {
     message: T,
-    first: Option<(usize, usize)>,
+    first: Near,
+    second: Near,
+    third: Near,
+    fourth: Near,
     few: Vec<(usize, usize)>,
     others: BTreeMap<usize, usize>,
 }
 
 impl<T: Drop> Model for Item<T> {
     ghost use Rattle.std.specs.Prelude.{ℕ, ◌++◌};
-    ghost use Rattle.entries.specs.Placed.{Placed, with_first};
+    ghost use Rattle.entries.specs.Placed.{Placed, all_places};
 
     ghost Value = { Placed ℕ T };
 
     ghost view = { λ it. record {
       message = it.message;
-      places = with_first it.first (it.few.items ++ it.others.entries);
+      places = all_places it.first it.second it.third it.fourth
+          (it.few.items ++ it.others.entries);
     } };
 }
 
@@ -43,10 +48,27 @@ impl<T: Drop> Item<T> {
         ensures message { IfOk result (λ item. T.is_clone message.now item.message) }
         ensures places { IfOk result (λ item. item.places ≡ (list, place) ∷ []) }
     {
+        let message = message.clone()?;
+        let mut few = Vec::new(alloc);
+        if Near::reaches(list, place) {
+            return Ok(Item {
+                message,
+                first: Near::to(list, place),
+                second: Near::none(),
+                third: Near::none(),
+                fourth: Near::none(),
+                few,
+                others: BTreeMap::new(alloc),
+            });
+        }
+        few.push((list, place))?;
         Ok(Item {
-            message: message.clone()?,
-            first: Some((list, place)),
-            few: Vec::new(alloc),
+            message,
+            first: Near::none(),
+            second: Near::none(),
+            third: Near::none(),
+            fourth: Near::none(),
+            few,
             others: BTreeMap::new(alloc),
         })
     }
@@ -70,31 +92,39 @@ impl<T: Drop> Item<T> {
     pub fn place(&self, list: usize) -> Option<usize>
         ensures { result ≡ lookup (same_number list) self.now.places }
     {
-        if let Some(place) = first_of(&self.first, list) {
-            return Some(place);
+        match near_place(&self.first, &self.second, &self.third, &self.fourth, list) {
+            Some(place) => Some(place),
+            None => far_place(&self.few, &self.others, list),
         }
-        if let Some(place) = place_among(&self.few, list) {
-            return Some(place);
-        }
-        self.others.get(&list).copied()
     }
 
     // Adds the place of a list that has none. On an allocation failure nothing changes.
     fn add(&mut self, list: usize, place: usize) -> Result<(), AllocError>
         requires { lookup (same_number list) self.old.places ≡ None }
         ensures message { self.new.message ≡ self.old.message }
-        ensures places { OnOk result ((q : ℕ) → lookup (same_number q) self.new.places
-            ≡ (if same_number list q then Some place else lookup
-            (same_number q) self.old.places)) }
+        ensures places { OnOk result (Adds same_number list place
+            self.old.places self.new.places) }
         ensures err { OnErr result (self.new ≡ self.old) }
     {
-        if self.first.is_none() {
-            self.first = Some((list, place));
-        } else if self.few.len() < FEW {
-            self.few.push((list, place))?;
-        } else {
-            self.others.insert(list, place)?;
+        if Near::reaches(list, place) {
+            if self.first.is_none() {
+                self.first = Near::to(list, place);
+                return Ok(());
+            }
+            if self.second.is_none() {
+                self.second = Near::to(list, place);
+                return Ok(());
+            }
+            if self.third.is_none() {
+                self.third = Near::to(list, place);
+                return Ok(());
+            }
+            if self.fourth.is_none() {
+                self.fourth = Near::to(list, place);
+                return Ok(());
+            }
         }
+        add_far(&mut self.few, &mut self.others, list, place)?;
         Ok(())
     }
 
@@ -128,37 +158,100 @@ impl<T: Drop> Item<T> {
             ≡ (if same_number list q then None else lookup (same_number q) self.old.places) }
         ensures empty { MatchBool result (self.new.places ≡ []) (self.new.places ≡ [] → ⊥) }
     {
-        drop_first(&mut self.first, list);
-        drop_among(&mut self.few, list);
-        self.others.remove(&list);
-        none_left(&self.first, &self.few, &self.others)
-    }
-}
-
-/// Returns the place if it is that of the list.
-fn first_of(first: &Option<(usize, usize)>, list: usize) -> Option<usize>
-    ensures { result ≡ first_place (same_number list) first.now }
-{
-    match first {
-        Some((owner, place)) => {
-            if list.cmp(owner).is_eq() {
-                Some(*place)
-            } else {
-                None
-            }
+        self.first.drop_of(list);
+        self.second.drop_of(list);
+        self.third.drop_of(list);
+        self.fourth.drop_of(list);
+        drop_far(&mut self.few, &mut self.others, list);
+        if none_near(&self.first, &self.second, &self.third, &self.fourth) {
+            none_far(&self.few, &self.others)
+        } else {
+            false
         }
-        None => None,
     }
 }
 
-/// Drops the place if it is that of the list.
-fn drop_first(first: &mut Option<(usize, usize)>, list: usize)
-    ensures { first.new ≡ (if is_some (first_place (same_number list) first.old)
-        then None else first.old) }
+/// Returns the place of the list among those in front.
+fn near_place(
+    first: &Near,
+    second: &Near,
+    third: &Near,
+    fourth: &Near,
+    list: usize,
+) -> Option<usize>
+    ensures { result ≡ near_of (same_number list) first.now second.now third.now fourth.now }
 {
-    if first_of(first, list).is_some() {
-        *first = None;
+    if let Some(place) = first.of(list) {
+        return Some(place);
     }
+    if let Some(place) = second.of(list) {
+        return Some(place);
+    }
+    if let Some(place) = third.of(list) {
+        return Some(place);
+    }
+    fourth.of(list)
+}
+
+/// Returns whether there is no place in front.
+fn none_near(first: &Near, second: &Near, third: &Near, fourth: &Near) -> bool
+    ensures { let places = all_places first.now second.now third.now fourth.now in
+        MatchBool result ((others : List (ℕ × ℕ)) → places others ≡ others)
+        ((others : List (ℕ × ℕ)) → places others ≡ [] → ⊥) }
+{
+    first.is_none() && second.is_none() && third.is_none() && fourth.is_none()
+}
+
+/// Returns the place of the list among those behind.
+fn far_place(few: &[(usize, usize)], others: &BTreeMap<usize, usize>, list: usize) -> Option<usize>
+    ensures { result ≡ lookup (same_number list) (few.now ++ others.now.entries) }
+{
+    if let Some(place) = place_among(few, list) {
+        return Some(place);
+    }
+    others.get(&list).copied()
+}
+
+/// Adds the place of a list that has none there. On an allocation failure nothing changes.
+fn add_far(
+    few: &mut Vec<(usize, usize)>,
+    others: &mut BTreeMap<usize, usize>,
+    list: usize,
+    place: usize,
+) -> Result<(), AllocError>
+    requires { lookup (same_number list) (few.old.items ++ others.old.entries) ≡ None }
+    ensures ok { OnOk result (Adds same_number list place
+        (few.old.items ++ others.old.entries) (few.new.items ++ others.new.entries)) }
+    ensures err { OnErr result (few.new.items ++ others.new.entries
+        ≡ few.old.items ++ others.old.entries) }
+{
+    if few.len() < FEW {
+        few.push((list, place))?;
+    } else {
+        others.insert(list, place)?;
+    }
+    Ok(())
+}
+
+/// Drops the place of the list from those behind.
+fn drop_far(few: &mut Vec<(usize, usize)>, others: &mut BTreeMap<usize, usize>, list: usize)
+    ensures { Leaves same_number list
+        (few.old.items ++ others.old.entries) (few.new.items ++ others.new.entries) }
+{
+    if few.is_empty() && others.is_empty() {
+        return;
+    }
+    drop_among(few, list);
+    others.remove(&list);
+}
+
+/// Returns whether there is no place behind.
+#[tactic(auto, using(crate::proofs::Items::last_left, crate::proofs::Items::few_left))]
+fn none_far(few: &[(usize, usize)], others: &BTreeMap<usize, usize>) -> bool
+    ensures { let places = few.now ++ others.now.entries in
+        MatchBool result (places ≡ []) (places ≡ [] → ⊥) }
+{
+    few.is_empty() && others.is_empty()
 }
 
 /// Returns the place of the list among the places.
@@ -179,17 +272,4 @@ fn drop_among(places: &mut Vec<(usize, usize)>, list: usize)
         same_number list q then None else lookup (same_number q) places.old.items) }
 {
     places.retain(|entry| !list.cmp(&entry.0).is_eq());
-}
-
-/// Returns whether there is no place.
-#[tactic(auto, using(crate::proofs::Items::last_left, crate::proofs::Items::few_left))]
-fn none_left(
-    first: &Option<(usize, usize)>,
-    few: &[(usize, usize)],
-    others: &BTreeMap<usize, usize>,
-) -> bool
-    ensures { let places = with_first first.now (few.now ++ others.now.entries) in
-        MatchBool result (places ≡ []) (places ≡ [] → ⊥) }
-{
-    first.is_none() && few.is_empty() && others.is_empty()
 }

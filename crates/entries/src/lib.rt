@@ -10,6 +10,7 @@ pub mod leading;
 pub mod link;
 pub mod links;
 pub mod list;
+pub mod near;
 pub mod parts;
 pub mod places;
 pub mod store;
