@@ -1,6 +1,6 @@
 -- What leaves a cache: what was there and is not any more.
-use Rattle.std.proofs.Common.{◌≡◌, ℕ, zero, suc, ◌+◌, ◌≤◌, ◌<◌, ◌⊎◌, take, Bool, true, false, cond, inl, inr, List, [], ◌∷◌, ◌++◌, length, Option, Some, None, Result, Ok, Err, refl, sym, ap, ◌∙◌, arith, subst, length-append}
-use Rattle.std.specs.Prelude.{is_some, IfSome, MatchOption, OnErr, unwrap_or, nat_le}
+use Rattle.std.proofs.Common.{◌≡◌, ℕ, zero, suc, ◌+◌, ◌≤◌, ◌<◌, ◌⊎◌, take, Bool, true, false, cond, inl, inr, List, [], ◌∷◌, ◌++◌, length, Option, Some, None, refl, sym, ap, ◌∙◌, arith, subst, length-append}
+use Rattle.std.specs.Prelude.{is_some, IfSome, MatchOption, unwrap_or, nat_le}
 use Rattle.std.specs.List.{filter, IsDistinct}
 use Rattle.std.specs.Map.{lookup, keys_of, remove_entry}
 use Rattle.std.specs.Option.{option_map, option_to_list}
@@ -266,7 +266,7 @@ module _ {P M D : Type 0} (same : Same P D) (key_laws : IsEquivalence same.key) 
     abbrev whole : List (Charged D)
     whole = take size (at_charge x.digest charge ∷ cs)
 
-    still-there : Stores same p x whole old mid → Cuts same p (within budget (items_at same.key p mid.lists)) mid new → 0 < size → charge ≤ budget
+    pub still-there : Stores same p x whole old mid → Cuts same p (within budget (items_at same.key p mid.lists)) mid new → 0 < size → charge ≤ budget
         → is_some (lookup (same.digest x.digest) mid.messages) ≡ true → is_some (lookup (same.digest x.digest) new.messages) ≡ true
     still-there stores cuts some fits there =
         let at_mid : items_at same.key p mid.lists ≡ whole = stores.put.lists p ∙ cond_true (same.key p p) whole (items_at same.key p old.lists) (key_laws.refl p) in

@@ -35,16 +35,20 @@ pub struct Listing {
     pub outcome: Outcome,
     /// Whether a message of the digest is known to have been cached.
     pub was_cached: bool,
+    /// Whether the message is cached, and none of its digest was.
+    pub entered: bool,
 }
 
 impl Listing {
     /// No list changes, and nothing is known of the cache.
     pub const fn unchanged(outcome: Outcome) -> Self
-        ensures { result ≡ record { outcome = outcome; was_cached = false } }
+        ensures { result
+            ≡ record { outcome = outcome; was_cached = false; entered = false } }
     {
         Listing {
             outcome,
             was_cached: false,
+            entered: false,
         }
     }
 }

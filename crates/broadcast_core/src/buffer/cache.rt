@@ -1,5 +1,5 @@
 //! The primary keys, their lists, and each listed message once.
-ghost use Rattle.std.specs.Prelude.{◌≡◌, ◌≤◌, ◌<◌, ◌*◌, ◌∷◌, Bool, false, true, length, [], None, is_some, unwrap_or, IfOk, IfSome, OnOk, OnErr, IsOk, MatchBool};
+ghost use Rattle.std.specs.Prelude.{◌≡◌, ◌≤◌, ◌*◌, ◌∷◌, ◌&&◌, not, Bool, false, true, length, [], None, is_some, unwrap_or, IfOk, IfSome, OnOk, OnErr, IsOk, MatchBool};
 ghost use Rattle.std.specs.Option.{option_copied, option_map};
 ghost use Rattle.std.specs.List.{IsDistinct, list_any};
 ghost use Rattle.std.specs.Map.{lookup, keys_of};
@@ -71,13 +71,6 @@ impl<P: PublicKey, M: Digestible> Cache<P, M> {
         &self.primary
     }
 
-    /// Returns the most digests on a list.
-    pub fn deque_size(&self) -> usize
-        ensures { result ≡ self.now.shelf.deque_size }
-    {
-        self.shelf.deque_size()
-    }
-
     /// Returns the number of messages that left and were not removed yet.
     pub fn left_len(&self) -> usize
         ensures { result ≡ unwrap_or (option_map length self.now.shelf.left) 0 }
@@ -132,10 +125,10 @@ impl<P: PublicKey, M: Digestible> Cache<P, M> {
             (has_digest same.digest message.now.digest cs)) }
         ensures cached { IfOk result (λ listing. listing.was_cached ≡ true → is_some (lookup
             (eq_by_cmp M.Digest.cmp message.now.digest) self.old.shelf.stored.messages) ≡ true) }
-        ensures known { IfOk result (λ listing. listing.outcome ≡ Outcome.Inserted
-            → 0 < self.old.shelf.deque_size → listing.was_cached ≡ is_some (lookup
-            (eq_by_cmp M.Digest.cmp message.now.digest) self.old.shelf.stored.messages)) }
-        ensures stays_at_size_zero { self.old.shelf.deque_size ≡ 0 → self.new ≡ self.old }
+        ensures entered { let at = eq_by_cmp M.Digest.cmp message.now.digest in
+            IfOk result (λ listing. listing.entered
+            ≡ (not (is_some (lookup at self.old.shelf.stored.messages))
+            && is_some (lookup at self.new.shelf.stored.messages))) }
         ensures ok { let same = same_by P.cmp M.Digest.cmp in
             let old = self.old.shelf in
             OnOk result (MatchBool (list_any (same.key peer.now) self.old.primary)
@@ -184,9 +177,10 @@ impl<P: PublicKey, M: Digestible> Cache<P, M> {
         ensures outcome { IfOk result (λ listing. listing.outcome ≡ outcome_of true true false) }
         ensures cached { IfOk result (λ listing. listing.was_cached ≡ true → is_some (lookup
             (eq_by_cmp M.Digest.cmp message.now.digest) self.old.shelf.stored.messages) ≡ true) }
-        ensures known { 0 < self.old.shelf.deque_size → IfOk result (λ listing.
-            listing.was_cached ≡ is_some (lookup (eq_by_cmp M.Digest.cmp message.now.digest)
-            self.old.shelf.stored.messages)) }
+        ensures entered { let at = eq_by_cmp M.Digest.cmp message.now.digest in
+            IfOk result (λ listing. listing.entered
+            ≡ (not (is_some (lookup at self.old.shelf.stored.messages))
+            && is_some (lookup at self.new.shelf.stored.messages))) }
         ensures ok { let same = same_by P.cmp M.Digest.cmp in
             let old = self.old.shelf in
             let c = at_charge message.now.digest charge in

@@ -1,5 +1,5 @@
 //! Lists by number, and each listed message once.
-ghost use Rattle.std.specs.Prelude.{◌≡◌, ◌≤◌, ◌<◌, ◌+◌, ◌^◌, ◌∷◌, true, not, length, take, [], None, Some, IsSome, is_some, unwrap_or, IfOk, IfSome, OnOk, OnErr, IsOk};
+ghost use Rattle.std.specs.Prelude.{◌≡◌, ◌≤◌, ◌<◌, ◌+◌, ◌^◌, ◌∷◌, ◌&&◌, true, not, length, take, [], None, Some, IsSome, is_some, unwrap_or, IfOk, IfSome, OnOk, OnErr, IsOk};
 ghost use Rattle.std.specs.Option.{option_copied, option_map};
 ghost use Rattle.std.specs.List.{IsDistinct};
 ghost use Rattle.std.specs.Map.{lookup, keys_of};
@@ -165,10 +165,10 @@ impl<M: Digestible> Shelf<M> {
             ≡ outcome_of true true (has_digest same.digest message.now.digest cs)) }
         ensures cached { IfOk result (λ listing. listing.was_cached ≡ true → is_some (lookup
             (eq_by_cmp M.Digest.cmp message.now.digest) self.old.stored.messages) ≡ true) }
-        ensures known { 0 < self.old.deque_size → IfOk result (λ listing. listing.was_cached
-            ≡ is_some (lookup (eq_by_cmp M.Digest.cmp message.now.digest)
-            self.old.stored.messages)) }
-        ensures stays_at_size_zero { self.old.deque_size ≡ 0 → self.new ≡ self.old }
+        ensures entered { let at = eq_by_cmp M.Digest.cmp message.now.digest in
+            IfOk result (λ listing. listing.entered
+            ≡ (not (is_some (lookup at self.old.stored.messages))
+            && is_some (lookup at self.new.stored.messages))) }
         ensures ok { let same = same_listed M.Digest.cmp in
             let cs = items_at same.key list self.old.stored.lists in
             let c = at_charge message.now.digest charge in
@@ -223,6 +223,8 @@ impl<M: Digestible> Shelf<M> {
             ≡ outcome_of true true (has_digest same.digest message.now.digest cs)) }
         ensures cached { IfOk result (λ put. put.0.was_cached ≡ is_some (lookup
             (eq_by_cmp M.Digest.cmp message.now.digest) self.old.stored.messages)) }
+        ensures entered { IfOk result (λ put. put.0.entered ≡ not (is_some (lookup
+            (eq_by_cmp M.Digest.cmp message.now.digest) self.old.stored.messages))) }
         ensures bytes { IfOk result (λ put. put.1
             ≡ bytes_of (items_at same_number list self.new.stored.lists)) }
         ensures ok { let same = same_listed M.Digest.cmp in
@@ -242,6 +244,7 @@ impl<M: Digestible> Shelf<M> {
             (digests_of (items_at same_number list self.old.stored.lists)) ≡ true → IsOk result }
     {
         let found = self.table.insert(message, list, self.lists.vacant(list))?;
+        let entered = !found.was_there;
         let charged = Charged {
             digest: found.item,
             charge,
@@ -262,6 +265,7 @@ impl<M: Digestible> Shelf<M> {
         let listing = Listing {
             outcome: outcome(found.place),
             was_cached: found.was_there,
+            entered,
         };
         Ok((listing, bytes))
     }

@@ -1,5 +1,5 @@
 //! The state of a core, but for its own key.
-ghost use Rattle.std.specs.Prelude.{◌≡◌, ◌<◌, Bool, true, false, [], length, Some, None, if◌then◌else◌, IfOk, IfErr, OnErr};
+ghost use Rattle.std.specs.Prelude.{◌≡◌, [], length, Some, None, if◌then◌else◌, IfOk, IfErr, OnErr};
 ghost use Rattle.std.specs.Option.{option_map};
 ghost use Rattle.broadcast_core.specs.Changes.{IsSubscribed, IsTaken, TakesPeers};
 ghost use Rattle.broadcast_core.specs.Content.{same_by};
@@ -11,7 +11,7 @@ use crate::buffer::waiters::Waiters;
 use crate::codec::EncodeSize;
 use crate::digested::{Digested, Digestible};
 use crate::ordered::{PublicKey, Set};
-use crate::outcome::{Listing, Outcome, Subscribed, Taken};
+use crate::outcome::{Subscribed, Taken};
 use std::alloc::{AllocError, AllocFailed, Global};
 use std::marker::Model;
 
@@ -66,7 +66,7 @@ impl<P: PublicKey, M: Digestible, W: Drop> State<P, M, W> {
         Ok(Taken {
             outcome: listing.outcome,
             served,
-            entered: enters(listing, self.cache.deque_size()),
+            entered: listing.entered,
         })
     }
 
@@ -103,25 +103,6 @@ impl<P: PublicKey, M: Digestible, W: Drop> State<P, M, W> {
             self.old.cache.shelf self.new.cache.shelf }
     {
         self.cache.update_primary_peers(peers);
-    }
-}
-
-/// Returns whether a message that is taken so is cached, where none of its digest was.
-fn enters(listing: Listing, deque_size: usize) -> bool
-    ensures yes { result ≡ true → (listing.outcome ≡ Outcome.Inserted) × (0 < deque_size)
-        × (listing.was_cached ≡ false) }
-    ensures no { result ≡ false → listing.outcome ≡ Outcome.Inserted → 0 < deque_size
-        → listing.was_cached ≡ true }
-{
-    match listing.outcome {
-        Outcome::Inserted => {
-            if deque_size == 0 {
-                false
-            } else {
-                !listing.was_cached
-            }
-        }
-        _ => false,
     }
 }
 

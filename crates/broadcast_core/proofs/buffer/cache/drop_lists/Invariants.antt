@@ -1,4 +1,4 @@
-use Rattle.std.proofs.Common.{take, length}
+use Rattle.std.proofs.Common.{take}
 use Rattle.std.specs.Ordering.{eq_by_cmp}
 use Rattle.broadcast_core.specs.Content.{same_by}
 use Rattle.broadcast_core.specs.Numbered.{IsNumbered, named_of}

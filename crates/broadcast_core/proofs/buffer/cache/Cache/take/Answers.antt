@@ -1,21 +1,18 @@
-use Rattle.std.proofs.Common.{rules, Result, Ok, Err, OnOk, OnErr, ◌≡◌, Bool, true, false, [], refl, sym, ap, subst, ◌∙◌}
+use Rattle.std.proofs.Common.{rules, OnOk, ◌≡◌, true, false, refl, sym, ap, subst, ◌∙◌}
 use Rattle.std.specs.Prelude.{is_some, not}
+use Rattle.std.specs.Map.{lookup}
 use Rattle.std.specs.Cmp.{eq_by_cmp_equiv}
 use Rattle.std.specs.Ordering.{eq_by_cmp}
 use Rattle.entries.specs.Overlaid.{same_number}
-use Rattle.broadcast_core.specs.Content.{same_by, at_charge, items_at, outcome_of}
+use Rattle.broadcast_core.specs.Content.{same_by, at_charge, items_at}
 use Rattle.broadcast_core.specs.Fronted.{fronted}
-use Rattle.broadcast_core.specs.declared.outcome.Outcome.TheVariants.{Inserted}
 use Rattle.broadcast_core.specs.Numbered.{named_of}
 use Rattle.broadcast_core.specs.Stored.{Stores}
 use Rattle.broadcast_core.proofs.Parting.{Sheds-none}
+use Rattle.broadcast_core.proofs.Entering.{not-entered}
 use Rattle.broadcast_core.proofs.Taking.{IsCached-took, on_err}
 use Rattle.broadcast_core.proofs.Numbering.{named_there, named_nowhere, some_named, named_none, front-nothing, IsNumbered-taken, Stores-taken, Stores-nothing}
 use Rattle.broadcast_core.proofs.buffer.cache.Cache.take.Goals as goal
-
-never-inserted : (is_primary has : Bool) → outcome_of is_primary false has ≡ Inserted → ⊥
-never-inserted true has h = cc
-never-inserted false has h = cc
 
 pub returns-in_default-clause-lawful : goal.returns-in_default-clause-lawful
 returns-in_default-clause-lawful g c = rw (← c.self.view_is) c.self.invariant.1
@@ -35,9 +32,11 @@ returns-in-None-3-clause-lawful g c = rw (← c.self.view_is) c.self.invariant.1
 pub returns-in_default-clause-outcome : goal.returns-in_default-clause-outcome
 returns-in_default-clause-outcome g c = rw (← c.self.view_is, c.afforded.ensures.charge c.args.message.now.digest, c.in_default.is) (ap (λ l. l.outcome) c.unchanged.ensures ∙ c.without_charge.ensures true)
 
-pub returns-in_default-clause-known : goal.returns-in_default-clause-known
-returns-in_default-clause-known g c = λ inserted some.
-    absurd (never-inserted _ true (sym (ap (λ l. l.outcome) c.unchanged.ensures ∙ c.without_charge.ensures true) ∙ inserted))
+pub returns-in_default-clause-entered : goal.returns-in_default-clause-entered
+returns-in_default-clause-entered g c = not-entered c.unchanged.result.entered (is_some (lookup (eq_by_cmp g.M.Digest.Ord.cmp c.args.message.now.digest) c.args.self.now.shelf.stored.messages)) (ap (λ l. l.entered) c.unchanged.ensures)
+
+pub returns-in-Some-get-clause-entered : goal.returns-in-Some-get-clause-entered
+returns-in-Some-get-clause-entered g c = rw (← c.self.view_is) c.take.ensures.entered
 
 pub take-requires-clause-there : goal.take-requires-clause-there
 take-requires-clause-there g c κs within = c.self.invariant.0.there c.args.peer.now c.in-Some-get.list.now (sym c.in-Some-get.ensures.value)

@@ -148,8 +148,8 @@ invariant_of-self-in-Ok-take g c =
 pub returns-in-Ok-take-clause-ok : goal.returns-in-Ok-take-clause-ok
 returns-in-Ok-take-clause-ok g c = rw (← c.self.view_is) (stored-is g c).0
 
-pub returns-in-Ok-take-clause-known : goal.returns-in-Ok-take-clause-known
-returns-in-Ok-take-clause-known g c = rw (← c.self.view_is) (rw (c.open.ensures.rest.deque_size, c.in_ok-list.ensures.ok.messages) at c.in-Ok-take.ensures.known)
+pub returns-in-Ok-take-clause-entered : goal.returns-in-Ok-take-clause-entered
+returns-in-Ok-take-clause-entered g c = rw (← c.self.view_is) (rw c.in_ok-list.ensures.ok.messages at c.in-Ok-take.ensures.entered)
 
 pub returns-in-Ok-take-clause-sheds : goal.returns-in-Ok-take-clause-sheds
 returns-in-Ok-take-clause-sheds g c =

@@ -2,8 +2,8 @@ use Rattle.entries.proofs.Slots.{number_laws}
 use Rattle.entries.specs.Overlaid.{same_number}
 use Rattle.entries.specs.Store.{values_of, items_at as nodes_at}
 use Rattle.entries.specs.Table.{items_of, messages_of}
-use Rattle.std.proofs.Common.{Result, Ok, Err, OnErr, Some, inl, inr, refl, ◌≡◌, ◌≤◌, ◌<◌, ◌∷◌, true, take, length, sym, ap, subst, ◌∙◌, arith}
-use Rattle.std.specs.Prelude.{is_some, ◌^◌}
+use Rattle.std.proofs.Common.{Result, Ok, Err, OnErr, inl, inr, refl, ◌≡◌, ◌≤◌, ◌<◌, ◌∷◌, true, take, length, sym, ap, subst, ◌∙◌, arith}
+use Rattle.std.specs.Prelude.{is_some, not, ◌^◌}
 use Rattle.std.specs.Map.{lookup}
 use Rattle.std.specs.Cmp.{eq_by_cmp_equiv}
 use Rattle.broadcast_core.specs.Content.{same_charged, without, at_charge, items_at, bytes_of, outcome_of}
@@ -145,6 +145,9 @@ returns-clause-ok g c = rw (← c.self.view_is) (made g c).1
 
 pub returns-clause-cached : goal.returns-clause-cached
 returns-clause-cached g c = rw (← c.self.view_is) (c.in_ok-found.ensures.there ∙ sym (cached-there (eq_by_cmp g.M.Digest.Ord.cmp c.args.message.now.digest) (items_of c.self.inside.table)))
+
+pub returns-clause-entered : goal.returns-clause-entered
+returns-clause-entered g c = rw (← c.self.view_is) (ap not (c.in_ok-found.ensures.there ∙ sym (cached-there (eq_by_cmp g.M.Digest.Ord.cmp c.args.message.now.digest) (items_of c.self.inside.table))))
 
 pub returns-clause-bytes : goal.returns-clause-bytes
 returns-clause-bytes g c =

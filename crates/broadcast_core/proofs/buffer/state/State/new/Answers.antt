@@ -1,4 +1,4 @@
-use Rattle.std.proofs.Common.{refl, ap}
+use Rattle.std.proofs.Common.{refl}
 use Rattle.broadcast_core.proofs.buffer.state.State.new.Goals as goal
 
 pub invariant_of-result : goal.invariant_of-result

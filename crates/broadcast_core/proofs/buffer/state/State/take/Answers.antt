@@ -1,12 +1,10 @@
-use Rattle.std.proofs.Common.{◌≡◌, refl, sym, ap, subst, ◌∙◌}
+use Rattle.std.proofs.Common.{◌≡◌, refl, sym, ap, ◌∙◌}
 use Rattle.std.specs.Cmp.{eq_by_cmp_equiv}
 use Rattle.broadcast_core.specs.Content.{same_by, affordable, items_at, outcome_of}
 use Rattle.std.specs.Prelude.{is_some}
 use Rattle.std.specs.List.{list_any}
 use Rattle.broadcast_core.specs.Stored.{has_digest}
-use Rattle.broadcast_core.proofs.Parting.{Sheds-none}
 use Rattle.broadcast_core.proofs.Taking.{among-names, on_false, Unawaited-taken, Takes-taken}
-use Rattle.broadcast_core.proofs.Entering.{IsEntry, entered-is}
 use Rattle.broadcast_core.proofs.buffer.state.State.take.Goals as goal
 
 pub take-served-requires : goal.take-served-requires
@@ -39,14 +37,10 @@ returns-clause-taken g c = λ own.
     let charge = affordable shelf.byte_budget c.args.message.now.digest c.charge_of.result in
     let told : c.in_ok-listing.listing.outcome ≡ outcome_of primary (is_some charge) has = c.in_ok-listing.ensures.outcome in
     let stores = on_false _ primary (ap (λ x. x.shelf.stored)) c.in_ok-listing.ensures.ok in
-    let told_of : IsEntry c.in_ok-listing.listing.outcome c.deque_size.result c.in_ok-listing.listing.was_cached c.enters.result = record { yes = c.enters.ensures.yes; no = c.enters.ensures.no } in
-    let entry = subst (λ s. IsEntry c.in_ok-listing.listing.outcome s c.in_ok-listing.listing.was_cached c.enters.result) (c.deque_size.ensures ∙ c.take.ensures.sheds.deque_size) told_of in
     rw (← c.self.view_is, ← c.charge_of.ensures, c.take.ensures.primary, c.take.ensures.sheds.deque_size, c.take.ensures.sheds.byte_budget) (record {
       outcome = told ∙ ap (outcome_of primary (is_some charge)) (sym (among-names same.digest c.args.message.now.digest (items_at same.key c.args.peer.now shelf.stored.lists)));
       served = c.take-served.ensures.served ∙ ap (λ d. items_at same.digest d c.self.inside.waiters) c.digest.ensures;
-      entered = entered-is same key_laws laws shelf.byte_budget c.args.peer.now c.args.message.now cache.primary shelf.stored new.shelf.stored
-          c.take.ensures.lawful c.charge_of.result c.in_ok-listing.listing.outcome c.in_ok-listing.listing.was_cached c.enters.result entry
-          c.in_ok-listing.ensures.known (λ zero. ap (λ x. x.shelf.stored) (c.take.ensures.stays_at_size_zero zero)) _ told stores;
+      entered = c.in_ok-listing.ensures.entered;
       ok = Takes-taken same key_laws shelf.deque_size shelf.byte_budget laws c.args.peer.now c.args.message.now cache.primary shelf.stored new.shelf.stored
           c.take.ensures.lawful c.self.inside.waiters c.take-served.new.self waits c.charge_of.result own _ refl stores;
       err = tt;
