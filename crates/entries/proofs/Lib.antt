@@ -13,6 +13,7 @@ pub mod Tabled
 pub mod Joining
 pub mod Opening
 pub mod Overlaying
-pub mod Joined
-pub mod Parted
-pub mod Splitting
+pub mod Gathered
+pub mod Numbers
+pub mod Changed
+pub mod Bucketed
