@@ -84,9 +84,6 @@ buckets-end {R = R} {place = place} {more = more} n (b ∷ buckets) last are is 
 
 module _ {K V : Type 0} {R : K → K → Ordering} (o : IsTotalOrder R) (place : K → ℕ) (alike : (x y : K) → R x y ≡ Equal → place x ≡ place y)
     (more : List (K × V)) (ordered : IsStrictlySortedBy R (keys_of more)) (buckets : List (List (K × V))) (are : AreBucketsFrom R place more 0 buckets) where
-  own : (q : K) → List (K × V)
-  own q = slice_index_or buckets (place q) []
-
   is-own : (q : K) → IsBucket R place more (place q) (slice_index_or buckets (place q) [])
   is-own q = subst (λ m. IsBucket R place more m (slice_index_or buckets (place q) [])) (omega arith) (bucket-at 0 (place q) buckets are)
 
@@ -127,9 +124,6 @@ module _ {K V : Type 0} {R : K → K → Ordering} (o : IsTotalOrder R) (place :
     module _ (v : V) (none : entry_of R k (gathered R more buckets) ≡ None) (there : place k < length buckets) where
       parts-none : (entry_of R k (slice_index_or buckets (place k) []) ≡ None) × (entry_of R k more ≡ None)
       parts-none = neither (entry_of R k (slice_index_or buckets (place k) [])) (entry_of R k more) (sym (found k) ∙ none)
-
-      pushed : List (K × V)
-      pushed = slice_index_or buckets (place k) [] ++ (k, v) ∷ []
 
       found_pushed : (q : K) → entry_of R q (slice_index_or buckets (place k) [] ++ (k, v) ∷ []) ≡ cond (eq_by_cmp R q k) (Some (k, v)) (entry_of R q (slice_index_or buckets (place k) []))
       found_pushed q = found-pushed o q k v (slice_index_or buckets (place k) []) parts-none.0
@@ -207,9 +201,6 @@ module _ {K V : Type 0} {R : K → K → Ordering} (o : IsTotalOrder R) (place :
 
     -- a key is taken out of its bucket
     module _ (full : is_some (entry_of R k (slice_index_or buckets (place k) [])) ≡ true) (there : place k < length buckets) where
-      stays_by : K → Bool
-      stays_by x = not (eq_by_cmp R k x)
-
       found_left : (q : K) → entry_of R q (filter (λ e. not (eq_by_cmp R k e.0)) (slice_index_or buckets (place k) [])) ≡ cond (not (eq_by_cmp R k q)) (entry_of R q (slice_index_or buckets (place k) [])) None
       found_left q = found-filtered o (λ x. not (eq_by_cmp R k x)) (λ x y equal. ap not (flips o k x ∙ ap is_eq (o.congr x y k equal) ∙ flips o y k)) q (slice_index_or buckets (place k) [])
 
@@ -279,9 +270,6 @@ module _ {K V : Type 0} {R : K → K → Ordering} (o : IsTotalOrder R) (place :
   -- one bucket more gets some entries of another
   module _ (now : K → ℕ) (alike_now : (x y : K) → R x y ≡ Equal → now x ≡ now y) (from : ℕ) (there : from < length buckets)
       (moves : (q : K) → now q ≡ length buckets → place q ≡ from) (stays : (q : K) → (now q ≡ length buckets → ⊥) → now q ≡ place q) where
-    goes : K → Bool
-    goes q = nat_eq (now q) (length buckets)
-
     alike_goes : (x y : K) → R x y ≡ Equal → nat_eq (now x) (length buckets) ≡ nat_eq (now y) (length buckets)
     alike_goes x y equal = ap (λ n. nat_eq n (length buckets)) (alike_now x y equal)
 
@@ -342,9 +330,6 @@ module _ {K V : Type 0} {R : K → K → Ordering} (o : IsTotalOrder R) (place :
             ap (λ l. is_some (entry_of R q l)) (sym (ap (λ n. slice_index_or (slice_set buckets from (filter (λ e. not (nat_eq (now e.0) (length buckets))) (slice_index_or buckets from []))) n []) at_from
             ∙ at-here buckets from (filter (λ e. not (nat_eq (now e.0) (length buckets))) (slice_index_or buckets from [])) there)) ∙ full in
             not_moved q (passes-there (not (nat_eq (now q) (length buckets))) (entry_of R q (slice_index_or buckets from [])) (ap is_some (sym (found_kept q)) ∙ in_kept)) moved
-
-    both : List (List (K × V))
-    both = slice_set buckets from (filter (λ e. not (nat_eq (now e.0) (length buckets))) (slice_index_or buckets from [])) ++ filter (λ e. nat_eq (now e.0) (length buckets)) (slice_index_or buckets from []) ∷ []
 
     pub split-are : AreBucketsFrom R now more 0 (slice_set buckets from (filter (λ e. not (nat_eq (now e.0) (length buckets))) (slice_index_or buckets from [])) ++ filter (λ e. nat_eq (now e.0) (length buckets)) (slice_index_or buckets from []) ∷ [])
     split-are =
