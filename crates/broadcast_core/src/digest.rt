@@ -1,10 +1,10 @@
 //! Digests of 32 bytes.
-ghost use Rattle.std.specs.Prelude.{◌≡◌, map, Some, refl, slice_index_or};
+ghost use Rattle.std.specs.Prelude.{◌≡◌, map, Some, refl};
 ghost use Rattle.std.specs.List.{concat};
 ghost use Rattle.std.specs.Cmp.Lexicographic.{slice_cmp, nat_list_cmp_total, texts_po, texts_ties};
 ghost use Rattle.std.specs.Ordering.{nat_cmp};
 ghost use Rattle.sha2.specs.Sha256.{sha256};
-ghost use Rattle.entries.specs.Leads.{leads_by_first};
+ghost use Rattle.entries.specs.Leads.{first_word, equal_words};
 
 use crate::bytes32::{compare, write_hex};
 use entries::Leading;
@@ -82,13 +82,22 @@ impl Ord for Digest {
 }
 
 impl Leading for Digest {
-    ghost leading_of = { λ bytes. slice_index_or bytes 0 0 };
+    ghost leading_of = { first_word };
 
-    ghost leads = { leads_by_first };
+    ghost shared = { equal_words };
 
     #[inline(always)]
-    fn leading(&self) -> u8 {
-        self.bytes[0]
+    fn leading(&self) -> u64 {
+        u64::from_le_bytes([
+            self.bytes[0],
+            self.bytes[1],
+            self.bytes[2],
+            self.bytes[3],
+            self.bytes[4],
+            self.bytes[5],
+            self.bytes[6],
+            self.bytes[7],
+        ])
     }
 }
 

@@ -1,5 +1,5 @@
 //! Keys of peers, sets of keys, and recipients.
-ghost use Rattle.std.specs.Prelude.{◌≡◌, ◌==◌, true, refl, Some, List, [], length, is_some, IfSome, IfOk, OnOk, IsSomeAnd, slice_index_or};
+ghost use Rattle.std.specs.Prelude.{◌≡◌, ◌==◌, true, refl, Some, List, [], length, is_some, IfSome, IfOk, OnOk, IsSomeAnd};
 ghost use Rattle.std.specs.Cmp.Lexicographic.{pointwise, lists_per, lists_equiv, slice_cmp, nat_list_cmp_total, texts_po, texts_ties};
 ghost use Rattle.std.specs.Cmp.{on_po, on_total};
 ghost use Rattle.std.specs.Cmp.Rules.{comparing};
@@ -9,7 +9,7 @@ ghost use Rattle.std.specs.Option.{option_copied};
 ghost use Rattle.std.specs.Ordering.{eq_by_cmp, nat_cmp};
 ghost use Rattle.std.proofs.Common.{rules};
 ghost use Rattle.broadcast_core.specs.Stored.{AreBelow};
-ghost use Rattle.entries.specs.Leads.{leads_by_first};
+ghost use Rattle.entries.specs.Leads.{first_word, equal_words};
 
 use crate::bytes32::{compare, write_hex};
 use crate::items::Items;
@@ -65,13 +65,22 @@ impl Ord for Key {
 }
 
 impl Leading for Key {
-    ghost leading_of = { λ key. slice_index_or key.bytes 0 0 };
+    ghost leading_of = { λ key. first_word key.bytes };
 
-    ghost leads = { λ x y more. leads_by_first x.bytes y.bytes more };
+    ghost shared = { λ x y equal. equal_words x.bytes y.bytes equal };
 
     #[inline(always)]
-    fn leading(&self) -> u8 {
-        self.bytes[0]
+    fn leading(&self) -> u64 {
+        u64::from_le_bytes([
+            self.bytes[0],
+            self.bytes[1],
+            self.bytes[2],
+            self.bytes[3],
+            self.bytes[4],
+            self.bytes[5],
+            self.bytes[6],
+            self.bytes[7],
+        ])
     }
 }
 

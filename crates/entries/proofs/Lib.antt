@@ -10,7 +10,8 @@ pub mod Tables
 pub mod Tabled
 pub mod Joining
 pub mod Overlaying
-pub mod Joined
-pub mod Parted
 pub mod Placing
-pub mod Splitting
+pub mod Gathered
+pub mod Numbers
+pub mod Changed
+pub mod Bucketed

@@ -1,40 +1,55 @@
 -- Internal.
--- An ordered map in parts.
-use Rattle.std.specs.Prelude.{◌≡◌, ◌≤◌, ◌-◌, ℕ, suc, List, [], ◌∷◌, ◌++◌, length, slice_index, ⊤, ◌⊎◌}
-use Rattle.std.specs.List.{AllByRecursion}
+-- A map in buckets, which are chosen by a word of the keys, and an ordered map for what does not fit.
+use Rattle.std.specs.Prelude.{◌≡◌, ◌<◌, ◌+◌, ◌*◌, ◌/◌, ◌%◌, ◌^◌, ℕ, suc, true, cond, nat_lt, List, [], ◌∷◌, length, Option, None, is_some, ⊤}
+use Rattle.std.specs.List.{IsDistinct}
 use Rattle.std.specs.List.Sorted.{IsStrictlySortedBy}
-use Rattle.std.specs.Map.{keys_of}
-use Rattle.std.specs.BTreeMap.{BTreeMap}
+use Rattle.std.specs.Map.{keys_of, lookup_entry}
+use Rattle.std.specs.BTreeMap.{insert_entry}
+use Rattle.std.specs.Ordering.{eq_by_cmp}
 use Rattle.std.specs.declared.cmp.Ordering.{Ordering}
 
--- the entries of all parts
-abbrev pub joined : {K V : Type 0} → List (BTreeMap K V) → List (K × V)
-joined [] = []
-joined (part ∷ parts) = part.entries ++ joined parts
+-- the upper half of the product of a word and an odd number, in which all bits of the word take part
+abbrev pub spread : ℕ → ℕ
+spread word = (word * 11400714819323198485) % 2 ^ 64 / 2 ^ 32
 
--- the part of a leading byte by the table, where one past 255 is as 255. With no table it is the first
-abbrev pub number : List ℕ → ℕ → ℕ
-number table byte = slice_index table (byte - (byte - 255))
+-- the bucket of a spread word, of so many: its lowest bits, and one bit more if there is such a bucket
+abbrev pub number : ℕ → ℕ → ℕ → ℕ
+number bits buckets word = cond (nat_lt (word % 2 ^ (bits + 1)) buckets) (word % 2 ^ (bits + 1)) (word % 2 ^ bits)
 
-module _ {K V : Type 0} (cmp : K → K → Ordering) (part_of : K → ℕ) where
-  -- entries in order, whose keys are of this part
-  pub record IsPart (number : ℕ) (es : List (K × V)) : Type 0 where
-    pub ordered : IsStrictlySortedBy cmp (keys_of es)
-    pub led : AllByRecursion (λ e. part_of e.0 ≡ number) es
+module _ {K V : Type 0} (cmp : K → K → Ordering) where
+  -- the entries of a bucket put into a list in order
+  abbrev pub put_all : List (K × V) → List (K × V) → List (K × V)
+  put_all more [] = more
+  put_all more (e ∷ es) = insert_entry cmp (put_all more es) e.0 e.1
 
-  -- these are the parts from this one on
-  abbrev pub ArePartsFrom : ℕ → List (BTreeMap K V) → Type 0
-  ArePartsFrom number [] = ⊤
-  ArePartsFrom number (part ∷ parts) = IsPart number part.entries × ArePartsFrom (suc number) parts
+  -- the entries of all buckets put into a list in order
+  abbrev pub gathered : List (K × V) → List (List (K × V)) → List (K × V)
+  gathered more [] = more
+  gathered more (bucket ∷ buckets) = put_all (gathered more buckets) bucket
 
--- each key is in the part of its leading byte by the table, and the parts follow the order of the bytes
-pub record AreParts {K V : Type 0} (cmp : K → K → Ordering) (leading : K → ℕ) (table : List ℕ) (parts : List (BTreeMap K V)) : Type 0 where
-  pub whole : (table ≡ []) ⊎ (length table ≡ 256)
-  pub ascends : (a b : ℕ) → a ≤ b → number table a ≤ number table b
-  pub there : (byte : ℕ) → number table byte ≤ length parts - 1
-  pub placed : ArePartsFrom cmp (λ key. number table (leading key)) 0 parts
+  -- the entry of a key
+  abbrev pub entry_of : K → List (K × V) → Option (K × V)
+  entry_of k es = lookup_entry (eq_by_cmp cmp k) es
+
+  module _ (place : K → ℕ) (more : List (K × V)) where
+    -- a bucket whose keys differ, belong there, and are not in the list
+    pub record IsBucket (number : ℕ) (bucket : List (K × V)) : Type 0 where
+      pub distinct : IsDistinct (eq_by_cmp cmp) (keys_of bucket)
+      pub placed : (k : K) → is_some (entry_of k bucket) ≡ true → place k ≡ number
+      pub apart : (k : K) → is_some (entry_of k bucket) ≡ true → entry_of k more ≡ None
+
+    -- these are the buckets from this one on
+    abbrev pub AreBucketsFrom : ℕ → List (List (K × V)) → Type 0
+    AreBucketsFrom number [] = ⊤
+    AreBucketsFrom number (bucket ∷ buckets) = IsBucket number bucket × AreBucketsFrom (suc number) buckets
+
+-- each key is in the bucket of its word or in the ordered map
+pub record AreBuckets {K V : Type 0} (cmp : K → K → Ordering) (leading : K → ℕ) (bits : ℕ) (buckets : List (List (K × V))) (more : List (K × V)) : Type 0 where
+  pub few : bits < 32
+  pub ordered : IsStrictlySortedBy cmp (keys_of more)
+  pub placed : AreBucketsFrom cmp (λ k. number bits (length buckets) (spread (leading k))) more 0 buckets
 
 -- so it is, and the number of entries is right
-pub record IsParted {K V : Type 0} (cmp : K → K → Ordering) (leading : K → ℕ) (table : List ℕ) (parts : List (BTreeMap K V)) (len : ℕ) : Type 0 where
-  pub are : AreParts cmp leading table parts
-  pub counted : len ≡ length (joined parts)
+pub record IsParted {K V : Type 0} (cmp : K → K → Ordering) (leading : K → ℕ) (bits : ℕ) (buckets : List (List (K × V))) (more : List (K × V)) (len : ℕ) : Type 0 where
+  pub are : AreBuckets cmp leading bits buckets more
+  pub counted : len ≡ length (gathered cmp more buckets)

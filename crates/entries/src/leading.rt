@@ -1,39 +1,40 @@
-//! The byte that an order begins with.
-ghost use Rattle.std.specs.Prelude.{◌≡◌, ℕ, ◌<◌, ◌/◌, ◌^◌};
-ghost use Rattle.std.specs.declared.cmp.Ordering.TheVariants.{Greater};
-ghost use Rattle.entries.specs.Leads.{leads_by_byte, leads_by_word};
+//! The word that chooses where a key stands.
+ghost use Rattle.std.specs.Prelude.{◌≡◌, ℕ};
+ghost use Rattle.std.specs.declared.cmp.Ordering.TheVariants.{Equal};
+ghost use Rattle.entries.specs.Leads.{equal_numbers};
 
-/// A value with a leading byte, as the first of its bytes. A byte that is always 0 is lawful.
+/// A value with a leading word, as the first of its bytes. Equal values share it, and values that
+/// differ mostly differ in it. A word that is always 0 is lawful.
 pub trait Leading: Ord {
-    /// The leading byte.
+    /// The leading word.
     ghost leading_of: { Self → ℕ };
 
-    /// Returns the leading byte.
-    fn leading(&self) -> u8
+    /// Returns the leading word.
+    fn leading(&self) -> u64
         ensures { result ≡ leading_of self.now };
 
-    /// A value with a larger byte is greater.
-    ghost leads: { (x y : Self) → leading_of y < leading_of x → Self.cmp x y ≡ Greater };
+    /// Values that compare equal have the same word.
+    ghost shared: { (x y : Self) → Self.cmp x y ≡ Equal → leading_of x ≡ leading_of y };
 }
 
 impl Leading for u8 {
     ghost leading_of = { λ x. x };
 
-    ghost leads = { leads_by_byte };
+    ghost shared = { equal_numbers };
 
     #[inline(always)]
-    fn leading(&self) -> u8 {
-        *self
+    fn leading(&self) -> u64 {
+        u64::from(*self)
     }
 }
 
 impl Leading for u64 {
-    ghost leading_of = { λ x. x / 2 ^ 56 };
+    ghost leading_of = { λ x. x };
 
-    ghost leads = { leads_by_word };
+    ghost shared = { equal_numbers };
 
     #[inline(always)]
-    fn leading(&self) -> u8 {
-        (*self >> 56) as u8
+    fn leading(&self) -> u64 {
+        *self
     }
 }

@@ -3,6 +3,7 @@
 //! their digests, and an ordered map in parts.
 #![tactic(auto)]
 
+pub mod bucket;
 pub mod chain;
 pub mod entry;
 pub mod item;

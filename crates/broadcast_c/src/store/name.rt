@@ -1,11 +1,11 @@
 //! Keys of up to 64 bytes.
-ghost use Rattle.std.specs.Prelude.{◌≡◌, Some, refl, slice_index_or};
+ghost use Rattle.std.specs.Prelude.{◌≡◌, Some, refl};
 ghost use Rattle.std.specs.Cmp.Lexicographic.{slice_cmp, nat_list_cmp_total, texts_po, texts_ties};
 ghost use Rattle.std.specs.Cmp.{on_po, on_total};
 ghost use Rattle.std.specs.Cmp.Rules.{comparing};
 ghost use Rattle.std.specs.Ordering.{nat_cmp};
 ghost use Rattle.std.proofs.Common.{rules};
-ghost use Rattle.entries.specs.Leads.{leads_by_first};
+ghost use Rattle.entries.specs.Leads.{first_word, equal_words};
 
 use broadcast_core::{Leading, PublicKey};
 use std::cmp::Ordering;
@@ -46,13 +46,22 @@ impl Ord for Name {
 }
 
 impl Leading for Name {
-    ghost leading_of = { λ name. slice_index_or name.bytes 0 0 };
+    ghost leading_of = { λ name. first_word name.bytes };
 
-    ghost leads = { λ x y more. leads_by_first x.bytes y.bytes more };
+    ghost shared = { λ x y equal. equal_words x.bytes y.bytes equal };
 
     #[inline(always)]
-    fn leading(&self) -> u8 {
-        self.bytes[0]
+    fn leading(&self) -> u64 {
+        u64::from_le_bytes([
+            self.bytes[0],
+            self.bytes[1],
+            self.bytes[2],
+            self.bytes[3],
+            self.bytes[4],
+            self.bytes[5],
+            self.bytes[6],
+            self.bytes[7],
+        ])
     }
 }
 

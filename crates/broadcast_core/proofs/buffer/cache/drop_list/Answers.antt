@@ -6,7 +6,7 @@ use Rattle.std.specs.Cmp.{eq_by_cmp_equiv, IsTotalOrder}
 use Rattle.std.specs.declared.cmp.Ordering.{Ordering}
 use Rattle.std.proofs.lemmas.Map.{lookup-remove_entry, none_passes_from_lookup}
 use Rattle.std.proofs.lemmas.Map.Keys.{IsDistinct-from_sorted}
-use Rattle.entries.proofs.Joined.{remove_none}
+use Rattle.entries.proofs.Bucketed.{remove_none}
 use Rattle.broadcast_core.proofs.Parting.{Sheds-none}
 use Rattle.broadcast_core.proofs.Numbering.{IsNumbered-dropped, Drops-named, Drops-nothing}
 use Rattle.broadcast_core.proofs.buffer.cache.drop_list.Goals as goal

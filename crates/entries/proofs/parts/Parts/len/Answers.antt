@@ -1,5 +1,5 @@
-use Rattle.entries.proofs.Parted.{sorted-parted}
+use Rattle.entries.proofs.Gathered.{sorted-gathered}
 use Rattle.entries.proofs.parts.Parts.len.Goals as goal
 
 pub returns-clause-ordered : goal.returns-clause-ordered
-returns-clause-ordered g c = rw (← c.self.view_is) (sorted-parted g.met.K.Ord.total g.met.K.Leading.leads c.self.inside.table.items c.self.inside.parts.items c.self.invariant.are)
+returns-clause-ordered g c = rw (← c.self.view_is) (sorted-gathered g.met.K.Ord.total c.self.inside.more.entries c.self.inside.buckets.items c.self.invariant.are.ordered)

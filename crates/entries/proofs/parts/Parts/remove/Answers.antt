@@ -1,49 +1,18 @@
-use Rattle.std.proofs.Common.{◌≡◌, ◌<◌, length, Some, None, refl, sym, ap, ◌∙◌, arith}
-use Rattle.entries.specs.Parts.{number}
-use Rattle.entries.proofs.Parted.{lookup-parted, joined-removed, parted-removed, parted-kept}
+use Rattle.std.proofs.Common.{length, ap, ◌∙◌, sym, arith}
+use Rattle.std.specs.Ordering.{eq_by_cmp}
+use Rattle.std.proofs.lemmas.Map.{none_passes_from_lookup}
+use Rattle.entries.specs.Parts.{gathered}
+use Rattle.entries.proofs.Bucketed.{length-removed, remove_none}
 use Rattle.entries.proofs.parts.Parts.remove.Goals as goal
-
-pub overflow_sub-self : goal.overflow_sub-self
-overflow_sub-self g c =
-    let there : c.part_of-part.result < length c.self.inside.parts.items = omega (arith, c.len.ensures) in
-    let is : c.part_of-part.result ≡ number c.self.inside.table.items (g.K.Leading.leading_of c.args.key.now) = c.part_of-part.ensures ∙ ap (λ table. number table c.leading.result) c.deref.ensures.value ∙ ap (number c.self.inside.table.items) c.leading.ensures in
-    (parted-removed g.met.K.Ord.total g.met.K.Leading.leads c.self.inside.table.items c.self.inside.parts.items c.self.invariant.are c.args.key.now c.part_of-part.result c.index_mut.result.now is c.index_mut.ensures.value there
-    c.remove.new.self c.remove.ensures.ordered c.self.inside.len c.self.invariant.counted c.remove.ensures.entries (Some c.in-Some.value) c.in-Some.ensures.value refl).0
 
 pub invariant_of-self : goal.invariant_of-self
 invariant_of-self g c =
-    let there : c.part_of-part.result < length c.self.inside.parts.items = omega (arith, c.len.ensures) in
-    let is : c.part_of-part.result ≡ number c.self.inside.table.items (g.K.Leading.leading_of c.args.key.now) = c.part_of-part.ensures ∙ ap (λ table. number table c.leading.result) c.deref.ensures.value ∙ ap (number c.self.inside.table.items) c.leading.ensures in
-    (parted-removed g.met.K.Ord.total g.met.K.Leading.leads c.self.inside.table.items c.self.inside.parts.items c.self.invariant.are c.args.key.now c.part_of-part.result c.index_mut.result.now is c.index_mut.ensures.value there
-    c.remove.new.self c.remove.ensures.ordered c.self.inside.len c.self.invariant.counted c.remove.ensures.entries (Some c.in-Some.value) c.in-Some.ensures.value refl).1
-
-pub returns-in-Some-clause-value : goal.returns-in-Some-clause-value
-returns-in-Some-clause-value g c =
-    let there : c.part_of-part.result < length c.self.inside.parts.items = omega (arith, c.len.ensures) in
-    let is : c.part_of-part.result ≡ number c.self.inside.table.items (g.K.Leading.leading_of c.args.key.now) = c.part_of-part.ensures ∙ ap (λ table. number table c.leading.result) c.deref.ensures.value ∙ ap (number c.self.inside.table.items) c.leading.ensures in
-    rw (← c.self.view_is) (c.in-Some.ensures.value ∙ sym (lookup-parted g.met.K.Ord.total g.met.K.Leading.leads c.self.inside.table.items c.self.inside.parts.items c.self.invariant.are c.args.key.now c.part_of-part.result c.index_mut.result.now is c.index_mut.ensures.value there))
-
-pub returns-in-Some-clause-removed : goal.returns-in-Some-clause-removed
-returns-in-Some-clause-removed g c =
-    let there : c.part_of-part.result < length c.self.inside.parts.items = omega (arith, c.len.ensures) in
-    let is : c.part_of-part.result ≡ number c.self.inside.table.items (g.K.Leading.leading_of c.args.key.now) = c.part_of-part.ensures ∙ ap (λ table. number table c.leading.result) c.deref.ensures.value ∙ ap (number c.self.inside.table.items) c.leading.ensures in
-    rw (← c.self.view_is) (joined-removed g.met.K.Ord.total g.met.K.Leading.leads c.self.inside.table.items c.self.inside.parts.items c.self.invariant.are c.args.key.now c.part_of-part.result c.index_mut.result.now is c.index_mut.ensures.value there c.remove.new.self c.remove.ensures.entries)
+    let less = length-removed (eq_by_cmp g.K.Ord.cmp c.args.key.now) (gathered g.K.Ord.cmp c.self.inside.more.entries c.self.inside.buckets.items) c.in-Some.value (sym c.in-Some.ensures.value) in
+    let all = ap length c.in-Some.ensures.removed in
+    record { are = c.in-Some.ensures.are; counted = omega (arith, c.self.invariant.counted) }
 
 pub invariant_of-self-in-None : goal.invariant_of-self-in-None
 invariant_of-self-in-None g c =
-    let there : c.part_of-part.result < length c.self.inside.parts.items = omega (arith, c.len.ensures) in
-    let is : c.part_of-part.result ≡ number c.self.inside.table.items (g.K.Leading.leading_of c.args.key.now) = c.part_of-part.ensures ∙ ap (λ table. number table c.leading.result) c.deref.ensures.value ∙ ap (number c.self.inside.table.items) c.leading.ensures in
-    parted-kept g.met.K.Ord.total g.met.K.Leading.leads c.self.inside.table.items c.self.inside.parts.items c.self.invariant.are c.args.key.now c.part_of-part.result c.index_mut.result.now is c.index_mut.ensures.value there
-    c.remove.new.self c.remove.ensures.ordered c.self.inside.len c.self.invariant.counted c.remove.ensures.entries None c.in-None.ensures.value refl
-
-pub returns-in-None-clause-value : goal.returns-in-None-clause-value
-returns-in-None-clause-value g c =
-    let there : c.part_of-part.result < length c.self.inside.parts.items = omega (arith, c.len.ensures) in
-    let is : c.part_of-part.result ≡ number c.self.inside.table.items (g.K.Leading.leading_of c.args.key.now) = c.part_of-part.ensures ∙ ap (λ table. number table c.leading.result) c.deref.ensures.value ∙ ap (number c.self.inside.table.items) c.leading.ensures in
-    rw (← c.self.view_is) (c.in-None.ensures.value ∙ sym (lookup-parted g.met.K.Ord.total g.met.K.Leading.leads c.self.inside.table.items c.self.inside.parts.items c.self.invariant.are c.args.key.now c.part_of-part.result c.index_mut.result.now is c.index_mut.ensures.value there))
-
-pub returns-in-None-clause-removed : goal.returns-in-None-clause-removed
-returns-in-None-clause-removed g c =
-    let there : c.part_of-part.result < length c.self.inside.parts.items = omega (arith, c.len.ensures) in
-    let is : c.part_of-part.result ≡ number c.self.inside.table.items (g.K.Leading.leading_of c.args.key.now) = c.part_of-part.ensures ∙ ap (λ table. number table c.leading.result) c.deref.ensures.value ∙ ap (number c.self.inside.table.items) c.leading.ensures in
-    rw (← c.self.view_is) (joined-removed g.met.K.Ord.total g.met.K.Leading.leads c.self.inside.table.items c.self.inside.parts.items c.self.invariant.are c.args.key.now c.part_of-part.result c.index_mut.result.now is c.index_mut.ensures.value there c.remove.new.self c.remove.ensures.entries)
+    let same = remove_none (eq_by_cmp g.K.Ord.cmp c.args.key.now) (gathered g.K.Ord.cmp c.self.inside.more.entries c.self.inside.buckets.items)
+    (none_passes_from_lookup (eq_by_cmp g.K.Ord.cmp c.args.key.now) (gathered g.K.Ord.cmp c.self.inside.more.entries c.self.inside.buckets.items) (sym c.in-None.ensures.value)) in
+    record { are = c.in-None.ensures.are; counted = c.self.invariant.counted ∙ sym (ap length (c.in-None.ensures.removed ∙ same)) }
