@@ -99,8 +99,9 @@ impl<M> Cache<M> {
     }
 
     /// Takes a message under the key `peer` and the digest, at this charge. Neither the digest nor the charge is checked: a
-    /// message is cached under whatever digest it came with, and memory is bounded by what the caller charges. Serves all tickets that wait for the digest, whatever the outcome is. The result has the messages that leave the
-    /// cache, and drops those that the caller does not ask for.
+    /// message is cached under whatever digest it came with, and memory is bounded by what the caller charges. Serves all
+    /// tickets that wait for the digest, whatever the outcome is. The result has the messages that leave the cache, and drops
+    /// those that the caller does not ask for.
     ///
     /// # Errors
     ///
