@@ -95,6 +95,31 @@ async fn a_full_mailbox_backs_off_and_loses_nothing() {
 }
 
 #[tokio::test(start_paused = true)]
+async fn all_requests_are_replied_to_whatever_the_limits_are() {
+    let message = TestMessage::digested("message");
+    let len = message.encode().len() as u64;
+    for mailbox_size in [NonZeroUsize::MIN, NonZeroUsize::MAX] {
+        for deque_size in [0, 1, usize::MAX] {
+            for byte_budget in [0, len - 1, len, u64::MAX] {
+                let limited = fixed().mailbox_size(mailbox_size).deque_size(deque_size);
+                let limited = limited.byte_budget(byte_budget);
+                let (engine, mailbox) = Engine::<_, TestMessage, _, _>::new(limited).unwrap();
+                let (_payloads, network) = mpsc::channel(1);
+                let _handle = engine.start((Nowhere, network));
+                let waits = mailbox.subscribe(message.digest());
+                assert!(mailbox.broadcast(Recipients::All, message.clone()).accepted());
+                assert_eq!(waits.await, Ok(message.clone()));
+                let kept =
+                    if deque_size > 0 && byte_budget >= len { vec![&message] } else { vec![] };
+                assert_eq!(mailbox.get(message.digest()).await.as_ref(), kept.first().copied());
+                assert_eq!(mailbox.list([1; 32]).await.unwrap().iter().collect::<Vec<_>>(), kept);
+                assert_eq!(mailbox.snapshot().await.unwrap().messages.len(), kept.len());
+            }
+        }
+    }
+}
+
+#[tokio::test(start_paused = true)]
 async fn operations_after_the_end_do_not_panic() {
     for way in 0..4 {
         let nodes = Nodes::start(2, 0.0).await;

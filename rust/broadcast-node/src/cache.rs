@@ -7,7 +7,8 @@ use crate::tickets::Tickets;
 use crate::{Counters, Counts, Digest, Error, Key, Refused, Ticket};
 use std::fmt;
 
-/// The most places that are made for a list before its length is known. For longer lists the library is called twice.
+/// The most places that are made for a list before its length is known. A list that may be longer is asked for its length
+/// first: of a list of 1,000 this second search is one percent of the instructions, and a short list gets no room for 1,000.
 const FEW: usize = 128;
 
 /// A node's cache of messages, and the tickets that wait for one.
@@ -98,8 +99,9 @@ impl<M> Cache<M> {
     }
 
     /// Takes a message under the key `peer` and the digest, at this charge. Neither the digest nor the charge is checked: a
-    /// message is cached under whatever digest it came with, and memory is bounded by what the caller charges. Serves all tickets that wait for the digest, whatever the outcome is. The result has the messages that leave the
-    /// cache, and drops those that the caller does not ask for.
+    /// message is cached under whatever digest it came with, and memory is bounded by what the caller charges. Serves all
+    /// tickets that wait for the digest, whatever the outcome is. The result has the messages that leave the cache, and drops
+    /// those that the caller does not ask for.
     ///
     /// # Errors
     ///

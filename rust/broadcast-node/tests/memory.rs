@@ -3,6 +3,7 @@
 
 #![allow(unsafe_code, reason = "an allocator")]
 
+use broadcast_node::log::{Arrived, AuthorLog, Message};
 use broadcast_node::{
     Cache, Digest, Error, Key, Limits, Node, Received, Recipients, RestoreError, Subscribed,
 };
@@ -241,4 +242,33 @@ fn a_refused_message_comes_back() {
     let refused = refusing(0, || cache.take_own(&digest(1), 7, message).map(drop)).0.unwrap_err();
     assert_eq!((refused.error, &*refused.message), (Error::Memory, "message"));
     assert_eq!(*cache.take_own(&digest(1), 7, refused.message).unwrap().message, "message");
+}
+
+fn message(stamp: u64) -> Message {
+    Message { prev: stamp - 1, stamp, bytes: 36, handle: stamp }
+}
+
+/// A log that has room for two messages, and the handles of what left it.
+fn log() -> (AuthorLog, Vec<u64>) {
+    let (mut log, mut left) = (AuthorLog::new(200).unwrap(), Vec::new());
+    for stamp in [5, 7] {
+        assert_eq!(log.arrive(message(stamp), 9, &mut left), Ok(Arrived::Listed));
+    }
+    (log, left)
+}
+
+#[test]
+fn a_log_loses_no_message() {
+    assert_eq!(refuse_each(|| (), |()| AuthorLog::new(200).map(drop)), 1, "the library's");
+    let arrives = |(log, left): &mut (AuthorLog, Vec<u64>)| {
+        let before = (log.floor(), log.get(0), log.get(1), log.bytes(), left.len());
+        let arrived = log.arrive(message(9), 9, left);
+        let after = (log.floor(), log.get(0), log.get(1), log.bytes(), left.len());
+        assert!(arrived.is_ok() || before == after);
+        arrived.map(|it| (it, after, left.last().copied()))
+    };
+    let listed = (5, Some(message(7)), Some(message(9)), 200, 1);
+    assert_eq!(arrives(&mut log()), Ok((Arrived::Listed, listed, Some(5))));
+    assert!(refuse_each(log, arrives) > 0);
+    assert_eq!(refuse_each(log, |it| it.0.report()), 1, "the spans");
 }

@@ -1,373 +1,233 @@
-//! What calls cost beside a plain Rust cache, in nanoseconds: `cargo bench --bench cost`, or `cargo bench --bench cost -- 10 100`
-//! for the loads of so many peers.
+//! What calls cost beside plain Rust caches of ordered maps, of hash maps, and written for speed:
 //!
-//! Other work on a machine, also that of neighbours that one does not see, slows some moments down by a half. So the
-//! calls of a row are timed in stretches of `STRETCH`, and a stretch counts by its least time in `ROUNDS` rounds, in
-//! which the two sides take turns. Where memory lies differs from process to process. So each table is measured by
-//! `RUNS` processes: a row is that of the process with the median ratio, then the least and the greatest ratio.
+//!     cargo bench --bench cost                  all rows
+//!     cargo bench --bench cost -- takes gets    the rows of these calls (takes, gets, lists, subscribes, bytes)
+//!     cargo bench --bench cost -- 1000          the rows of at most so many peers, messages, or waiters
+//!
+//! It prints three tables in Markdown: nanoseconds a call; where valgrind is found, instructions a call, which no
+//! neighbour disturbs; and the growth of resident memory for each cached message, without the message itself.
+//!
+//! Other work on a machine slows some moments down by a half. So the calls of a row are timed in stretches of `STRETCH`,
+//! and a stretch counts by its least time in `ROUNDS` rounds, in which the four caches take turns. Where memory lies differs
+//! from process to process. So a row is measured by `RUNS` processes: each number, and each ratio, is the median of theirs.
 
 mod expert;
+mod hashed;
+mod loads;
 mod plain;
+mod sides;
 
-use broadcast_node::{Cache, Digest, Key, Limits, Node, Subscribed, Ticket};
 use expert::Expert;
+use hashed::Hashed;
+use loads::{Call, Load, State, measured_calls};
 use plain::Plain;
+use sides::{Bytes32, Keyed, Shared, Side, Verified};
 use std::env;
-use std::hint::black_box;
-use std::process::Command;
-use std::sync::Arc;
+use std::fs::read_to_string;
+use std::process::{Command, Output};
 use std::time::{Duration, Instant};
 
-type Bytes32 = [u8; 32];
-type Shared = Arc<[u8]>;
-
-const RUNS: usize = 7;
-const ROUNDS: usize = 15;
+const RUNS: usize = 5;
+const ROUNDS: usize = 9;
 const STRETCH: usize = 500;
+/// The most calls whose instructions are counted.
+const COUNTED: usize = 20_000;
 
-/// Peers, length of their lists, messages, and bytes of a message.
-const LOADS: [(usize, usize, usize, usize); 7] = [
-    (10, 10, 20_000, 100),
-    (100, 10, 20_000, 100),
-    (1_000, 10, 20_000, 100),
-    (16, 100, 20_000, 100),
-    (16, 1000, 20_000, 100),
-    (16, 100, 20_000, 1_000),
-    (16, 100, 1_000, 10_000),
+type Ordered = Keyed<Plain<Bytes32, Shared>>;
+type ByHash = Keyed<Hashed<Bytes32, Shared>>;
+type ForSpeed = Keyed<Expert<Bytes32, Shared>>;
+const SIDES: usize = 4;
+
+/// The calls by the word that chooses them, the name of a row around its number, and the numbers.
+const ROWS: [(&str, Call, [&str; 2], &[usize]); 4] = [
+    ("takes", Call::Takes, ["`take`, ", " peers"], &[10, 100, 1_000, 10_000]),
+    ("gets", Call::Gets, ["`get`, of ", ""], &[100, 1_000, 10_000, 100_000, 1_000_000]),
+    ("lists", Call::Lists, ["`list`, of ", ""], &[10, 100, 1_000]),
+    (
+        "subscribes",
+        Call::Subscribes,
+        ["`subscribe` and `cancel`, ", " wait"],
+        &[10, 100, 1_000, 10_000, 100_000],
+    ),
 ];
-/// The variable that tells a process which load it measures.
-const LOAD: &str = "BROADCAST_BENCH_LOAD";
+/// The numbers of cached messages whose memory is measured.
+const BYTES: [usize; 3] = [10_000, 100_000, 1_000_000];
 
-/// A generator of numbers (splitmix).
-struct Random(u64);
+/// The variable that says what a process measures: its kind, the calls, their number, and for some kinds the side.
+const WHAT: &str = "BROADCAST_BENCH";
 
-impl Random {
-    fn next(&mut self) -> u64 {
-        self.0 = self.0.wrapping_add(0x9e37_79b9_7f4a_7c15);
-        let mut z = self.0;
-        z = (z ^ (z >> 30)).wrapping_mul(0xbf58_476d_1ce4_e5b9);
-        z = (z ^ (z >> 27)).wrapping_mul(0x94d0_49bb_1331_11eb);
-        z ^ (z >> 31)
-    }
-
-    fn bytes(&mut self) -> [u8; 32] {
-        let mut out = [0; 32];
-        for part in out.chunks_exact_mut(8) {
-            part.copy_from_slice(&self.next().to_le_bytes());
-        }
-        out
-    }
-
-    fn place(&mut self, n: usize) -> usize {
-        (self.next() % n as u64) as usize
-    }
-}
-
-/// Messages that each of about four of the peers hands on, in a random order near by.
-struct Load {
-    size: usize,
-    keys: Vec<Key>,
-    plain_keys: Vec<Bytes32>,
-    payloads: Vec<(Bytes32, Shared)>,
-    takes: Vec<(usize, usize)>,
-}
-
-impl Load {
-    fn new(peers: usize, size: usize, messages: usize, len: usize) -> Load {
-        let mut random = Random(7);
-        let plain_keys: Vec<Bytes32> = (0..peers).map(|_| random.bytes()).collect();
-        let bytes: Vec<u8> = (0..len).map(|_| random.next() as u8).collect();
-        let message = |n: usize| {
-            let mut bytes = bytes.clone();
-            bytes[..8].copy_from_slice(&n.to_le_bytes());
-            let payload = [&(len as u32).to_be_bytes()[..], &bytes].concat();
-            (Digest::sha256(&bytes).into(), payload.into())
-        };
-        let take = |n: usize| {
-            let near = (n / 4).saturating_sub(random.place(8));
-            (random.place(peers), near)
-        };
-        Load {
-            size,
-            keys: plain_keys.iter().map(|it| Key::from(*it)).collect(),
-            plain_keys,
-            payloads: (0..messages).map(message).collect(),
-            takes: (0..messages * 4).map(take).collect(),
-        }
-    }
-
-    fn empty_cache(&self) -> Cache<Shared> {
-        let mut cache = Cache::new(Key::from([0; 32]), self.size, u64::MAX).unwrap();
-        cache.update_primary_peers(&self.keys).unwrap();
-        cache
-    }
-
-    fn empty_plain(&self) -> Plain<Bytes32, Shared> {
-        let mut cache = Plain::new(self.size, u64::MAX);
-        cache.peers(&self.plain_keys);
-        cache
-    }
-
-    fn empty_expert(&self) -> Expert<Bytes32, Shared> {
-        Expert::new(self.size, u64::MAX, &self.plain_keys)
-    }
-
-    fn empty_node(&self) -> Node<Shared> {
-        let mut limits = Limits::default();
-        (limits.deque_size, limits.byte_budget) = (self.size, u64::MAX);
-        let mut node = Node::new(Key::from([0; 32]), limits).unwrap();
-        node.update_primary_peers(&self.keys).unwrap();
-        node
-    }
-
-    /// The peer, the digest and the payload of a take.
-    fn take(&self, n: usize) -> (usize, &Bytes32, Shared) {
-        let (peer, message) = self.takes[n];
-        let (digest, payload) = &self.payloads[message];
-        (peer, digest, payload.clone())
-    }
-
-    fn take_cache(&self, cache: &mut Cache<Shared>, n: usize) {
-        let (peer, digest, payload) = self.take(n);
-        let digest = Digest::from(*digest);
-        let taken = cache.take(&self.keys[peer], &digest, payload.len(), payload);
-        black_box(taken.unwrap().outcome);
-    }
-
-    fn take_plain(&self, cache: &mut Plain<Bytes32, Shared>, n: usize) {
-        let (peer, digest, payload) = self.take(n);
-        black_box(cache.take(&self.plain_keys[peer], digest, payload.len() as u64, payload));
-    }
-
-    fn take_expert(&self, cache: &mut Expert<Bytes32, Shared>, n: usize) {
-        let (peer, digest, payload) = self.take(n);
-        black_box(cache.take(&self.plain_keys[peer], digest, payload.len() as u64, payload));
-    }
-
-    fn payload_node(&self, node: &mut Node<Shared>, n: usize) {
-        let (peer, _, payload) = self.take(n);
-        let _ = black_box(node.payload(&self.keys[peer], payload).unwrap());
-    }
-
-    /// What a node does with a payload: the length is looked at, and the message is digested, as there.
-    fn payload_plain(&self, cache: &mut Plain<Bytes32, Shared>, n: usize) {
-        let (peer, _, payload) = self.take(n);
-        let (len, bytes) = payload.split_at(4);
-        assert_eq!(len, (bytes.len() as u32).to_be_bytes());
-        let (digest, charge) = (Digest::sha256(bytes).into(), payload.len() as u64);
-        black_box(cache.take(&self.plain_keys[peer], &digest, charge, payload));
-    }
-
-    /// Returns what the calls leave of a state.
-    fn filled<T>(&self, mut state: T, call: impl Fn(&Self, &mut T, usize)) -> T {
-        (0..self.takes.len()).for_each(|n| call(self, &mut state, n));
-        state
-    }
-}
-
-/// One side of a row: what makes its state, which each round begins with, and its calls.
-struct Side<M, C>(M, C);
-
-impl<S, M: FnMut() -> S, C: FnMut(&mut S, usize)> Side<M, C> {
-    /// Makes the calls, and lowers the time of each stretch to what it took, if that was less.
-    fn round(&mut self, calls: usize, least: &mut [Duration]) {
-        let mut state = self.0();
-        for (stretch, least) in least.iter_mut().enumerate() {
-            let first = stretch * STRETCH;
-            let start = Instant::now();
-            (first..calls.min(first + STRETCH)).for_each(|n| self.1(&mut state, n));
-            *least = start.elapsed().min(*least);
-        }
-    }
-}
-
-/// Prints the nanoseconds that a call takes on both sides.
-fn row<S, T>(
-    name: &str,
-    calls: usize,
-    mut one: Side<impl FnMut() -> S, impl FnMut(&mut S, usize)>,
-    mut other: Side<impl FnMut() -> T, impl FnMut(&mut T, usize)>,
-) {
-    let mut a = vec![Duration::MAX; calls.div_ceil(STRETCH)];
-    let mut b = a.clone();
+/// Prints the nanoseconds that a call takes on each side.
+fn print_times(load: &Load) {
+    let mut one: State<Verified> = load.state();
+    let mut two: State<Ordered> = load.state();
+    let mut three: State<ByHash> = load.state();
+    let mut four: State<ForSpeed> = load.state();
+    load.compare(&one, &two);
+    load.compare(&one, &three);
+    load.compare(&one, &four);
+    let mut least = vec![[Duration::MAX; SIDES]; load.calls().div_ceil(STRETCH)];
     for _ in 0..ROUNDS {
-        one.round(calls, &mut a);
-        other.round(calls, &mut b);
+        round(load, &mut one, 0, &mut least);
+        round(load, &mut two, 1, &mut least);
+        round(load, &mut three, 2, &mut least);
+        round(load, &mut four, 3, &mut least);
     }
-    let nanos =
-        |least: &[Duration]| least.iter().sum::<Duration>().as_nanos() as f64 / calls as f64;
-    println!("{name}\t{}\t{}", nanos(&a), nanos(&b));
+    for side in 0..SIDES {
+        let sum: Duration = least.iter().map(|it| it[side]).sum();
+        println!("{}", sum.as_nanos() as f64 / load.calls() as f64);
+    }
 }
 
-fn table(load: &Load) {
-    let calls = load.takes.len();
-    let cache = || Side(|| load.empty_cache(), |it: &mut _, n| load.take_cache(it, n));
-    let plain = Side(|| load.empty_plain(), |it: &mut _, n| load.take_plain(it, n));
-    let expert = Side(|| load.empty_expert(), |it: &mut _, n| load.take_expert(it, n));
-    let node = Side(|| load.empty_node(), |it: &mut _, n| load.payload_node(it, n));
-    let plain_node = Side(|| load.empty_plain(), |it: &mut _, n| load.payload_plain(it, n));
-    row("take", calls, cache(), plain);
-    row("take, beside an expert's", calls, cache(), expert);
-    row("payload of a node", calls, node, plain_node);
-
-    let mut cache = load.filled(load.empty_cache(), Load::take_cache);
-    let mut plain = load.filled(load.empty_plain(), Load::take_plain);
-    let mut expert = load.filled(load.empty_expert(), Load::take_expert);
-    assert_eq!(cache.len(), plain.cached());
-    assert_eq!(expert.cached(), plain.cached());
-    assert!(load.payloads.iter().all(|(digest, _)| expert.get(digest) == plain.get(digest)));
-    let mut random = Random(3);
-    let held: Vec<Bytes32> = load.payloads.iter().map(|it| it.0).collect();
-    let held: Vec<Bytes32> = held.into_iter().filter(|it| plain.get(it).is_some()).collect();
-    let asked: Vec<Bytes32> = (0..20_000).map(|_| held[random.place(held.len())]).collect();
-    let absent: Vec<Bytes32> = (0..20_000).map(|_| random.bytes()).collect();
-    gets(&cache, &plain, &asked, &absent);
-    cancels(&mut cache, &mut plain, &absent);
-    assert!(absent.iter().all(|it| expert.subscribe(1, it) && expert.cancel(it, 1)));
-    let listed: Vec<usize> = (0..2_000).map(|_| random.place(load.keys.len())).collect();
-    lists(&cache, &plain, &expert, load, &listed);
+/// Makes the calls of a round, and lowers the time of each stretch to what it took, if that was less.
+fn round<S: Side>(load: &Load, state: &mut State<S>, side: usize, least: &mut [[Duration; SIDES]]) {
+    for (stretch, least) in least.iter_mut().enumerate() {
+        let first = stretch * STRETCH;
+        let start = Instant::now();
+        measured_calls(load, state, first..load.calls().min(first + STRETCH));
+        least[side] = start.elapsed().min(least[side]);
+    }
 }
 
-/// Subscribes to digests that are not cached, and then cancels one subscription after the other.
-fn cancels(cache: &mut Cache<Shared>, plain: &mut Plain<Bytes32, Shared>, absent: &[Bytes32]) {
-    let calls = absent.len() * 2;
-    row(
-        "subscribe, cancel",
-        calls,
-        Side(Vec::new, |tickets: &mut Vec<Ticket>, n| match absent.get(n) {
-            Some(digest) => match cache.subscribe(&Digest::from(*digest)) {
-                Ok(Subscribed::Waiting(ticket)) => tickets.push(ticket),
-                other => panic!("{other:?}"),
-            },
-            None => {
-                let n = n - absent.len();
-                assert!(cache.cancel(&Digest::from(absent[n]), tickets[n]));
-            }
-        }),
-        Side(Vec::new, |tickets: &mut Vec<u64>, n| match absent.get(n) {
-            Some(digest) => {
-                assert!(plain.subscribe(n as u64, digest));
-                tickets.push(n as u64);
-            }
-            None => {
-                let n = n - absent.len();
-                assert!(plain.cancel(&absent[n], tickets[n]));
-            }
-        }),
+/// Fills a cache and makes the calls that are counted, of which it prints the number.
+fn make_calls<S: Side>(load: &Load) {
+    let mut state: State<S> = load.state();
+    let calls = load.calls().min(COUNTED);
+    measured_calls(load, &mut state, 0..calls);
+    println!("{calls}");
+}
+
+/// Prints how much the resident memory grows for each message that is cached.
+fn print_growth<S: Side>(load: &Load) {
+    let before = resident();
+    let state: State<S> = load.state();
+    println!("{}", (resident() - before) / state.side.cached() as f64);
+}
+
+/// The resident memory of this process, in bytes.
+fn resident() -> f64 {
+    let status = read_to_string("/proc/self/status").expect("Linux");
+    let line = status.lines().find_map(|it| it.strip_prefix("VmRSS:")).expect("Linux");
+    1_024.0 * line.trim().trim_end_matches(" kB").parse::<f64>().expect("a number")
+}
+
+/// Does what the variable says.
+fn measure(what: &str) {
+    let words: Vec<&str> = what.split(' ').collect();
+    let [kind, name, number, side] = words[..] else { panic!("{what:?}") };
+    let call = ROWS.iter().find(|it| it.0 == name).expect("a name").1;
+    let load = Load::new(call, number.parse().expect("a number"));
+    match (kind, side) {
+        ("times", _) => print_times(&load),
+        ("instructions", "0") => make_calls::<Verified>(&load),
+        ("instructions", "1") => make_calls::<Ordered>(&load),
+        ("instructions", "2") => make_calls::<ByHash>(&load),
+        ("instructions", _) => make_calls::<ForSpeed>(&load),
+        (_, "0") => print_growth::<Verified>(&load),
+        (_, "1") => print_growth::<Ordered>(&load),
+        (_, "2") => print_growth::<ByHash>(&load),
+        _ => print_growth::<ForSpeed>(&load),
+    }
+}
+
+/// Calls this program anew, behind these words, for what the variable is to say. Returns the numbers that it printed, and
+/// what it said besides.
+fn ask(before: &[&str], what: String) -> (Vec<f64>, String) {
+    let program = env::current_exe().expect("the path of this program");
+    let mut words = before.iter().map(|it| it.as_ref()).chain([program.as_os_str()]);
+    let mut command = Command::new(words.next().expect("a program"));
+    let ran = command.args(words).env(WHAT, what).output().expect("it starts");
+    let Output { status, stdout, stderr } = ran;
+    let said = String::from_utf8_lossy(&stderr).into_owned();
+    assert!(status.success(), "{said}");
+    let told = String::from_utf8_lossy(&stdout).into_owned();
+    (told.lines().map(|it| it.parse().expect("a number")).collect(), said)
+}
+
+/// The nanoseconds of each run.
+fn times(name: &str, number: usize) -> Vec<Vec<f64>> {
+    (0..RUNS).map(|_| ask(&[], format!("times {name} {number} -")).0).collect()
+}
+
+/// The instructions that valgrind counts within `measured_calls`.
+fn instructions(name: &str, number: usize) -> Vec<Vec<f64>> {
+    let words = [
+        "valgrind",
+        "--tool=callgrind",
+        "--toggle-collect=*measured_calls*",
+        "--callgrind-out-file=/dev/null",
+    ];
+    let of = |side| {
+        let (calls, said) = ask(&words, format!("instructions {name} {number} {side}"));
+        let line = said.lines().find_map(|it| it.split_once("Collected :")).expect("a count").1;
+        line.trim().parse::<f64>().expect("a number") / calls[0]
+    };
+    vec![(0..SIDES).map(of).collect()]
+}
+
+fn bytes(name: &str, number: usize) -> Vec<Vec<f64>> {
+    vec![(0..SIDES).map(|side| ask(&[], format!("bytes {name} {number} {side}")).0[0]).collect()]
+}
+
+fn median(mut numbers: Vec<f64>) -> f64 {
+    numbers.sort_by(f64::total_cmp);
+    numbers[numbers.len() / 2]
+}
+
+fn head(what: &str) {
+    println!(
+        "\n| {what} | this crate | ordered maps | hash maps | for speed | / ordered maps | / hash maps | / for speed |"
     );
+    println!("|---|---|---|---|---|---|---|---|");
 }
 
-fn gets(
-    cache: &Cache<Shared>,
-    plain: &Plain<Bytes32, Shared>,
-    asked: &[Bytes32],
-    absent: &[Bytes32],
-) {
-    for it in asked {
-        assert_eq!(cache.get(&Digest::from(*it)), plain.get(it));
-    }
-    let lends = || each(asked, |it| cache.get(&Digest::from(*it)));
-    let clones = || each(asked, |it| cache.get(&Digest::from(*it)).cloned());
-    let copies = || each(asked, |it| plain.get(it).map(|it| it.to_vec()));
-    row("get, beside a copy", asked.len(), clones(), copies());
-    row("get that lends, beside a copy", asked.len(), lends(), copies());
-    row("get", asked.len(), clones(), each(asked, |it| plain.get(it).cloned()));
-    row(
-        "get of what is not there",
-        absent.len(),
-        each(absent, |it| cache.get(&Digest::from(*it)).cloned()),
-        each(absent, |it| plain.get(it).cloned()),
-    );
+/// Prints a row of the numbers of each run.
+fn row(name: &str, runs: &[Vec<f64>]) {
+    let number = |side: usize| median(runs.iter().map(|it| it[side]).collect());
+    let ratio = |side: usize| median(runs.iter().map(|it| it[0] / it[side]).collect());
+    let numbers = (0..SIDES).map(|it| grouped(number(it)));
+    let ratios = (1..SIDES).map(|it| format!("{:.2}", ratio(it)));
+    let cells: Vec<String> = numbers.chain(ratios).collect();
+    println!("| {name} | {} |", cells.join(" | "));
 }
 
-/// The side without a state that calls each item.
-fn each<T, R>(
-    items: &[T],
-    mut call: impl FnMut(&T) -> R,
-) -> Side<impl FnMut(), impl FnMut(&mut (), usize)> {
-    Side(
-        || (),
-        move |_: &mut (), n| {
-            black_box(call(&items[n]));
-        },
-    )
-}
-
-fn lists(
-    cache: &Cache<Shared>,
-    plain: &Plain<Bytes32, Shared>,
-    expert: &Expert<Bytes32, Shared>,
-    load: &Load,
-    listed: &[usize],
-) {
-    for (key, plain_key) in load.keys.iter().zip(&load.plain_keys) {
-        let list: Vec<Bytes32> = cache.list(key).unwrap().into_iter().map(Bytes32::from).collect();
-        assert_eq!(list, plain.list(plain_key));
-        assert_eq!(list, expert.list(plain_key));
-    }
-    row(
-        "list",
-        listed.len(),
-        each(listed, |it| cache.list(&load.keys[*it]).unwrap().len()),
-        each(listed, |it| plain.list(&load.plain_keys[*it]).len()),
-    );
-}
-
-/// What a process printed of one row.
-struct Row {
-    name: String,
-    verified: f64,
-    other: f64,
-}
-
-impl Row {
-    fn parse(line: &str) -> Option<Row> {
-        let mut cells = line.split('\t');
-        let name = cells.next()?.to_owned();
-        let (verified, other) = (cells.next()?.parse().ok()?, cells.next()?.parse().ok()?);
-        Some(Row { name, verified, other })
-    }
-
-    fn ratio(&self) -> f64 {
-        self.verified / self.other
-    }
-}
-
-/// Runs this program for the load, and returns the rows that it printed.
-fn run(load: usize) -> Vec<Row> {
-    let ran =
-        Command::new(env::current_exe().unwrap()).env(LOAD, load.to_string()).output().unwrap();
-    assert!(ran.status.success(), "{}", String::from_utf8_lossy(&ran.stderr));
-    String::from_utf8(ran.stdout).unwrap().lines().map(|it| Row::parse(it).unwrap()).collect()
-}
-
-/// Prints the table of a load.
-fn show(load: usize) {
-    let (peers, size, _, len) = LOADS[load];
-    let name = format!("{peers} peers, lists of {size}, {len} bytes");
-    println!("\n{name:36} {:>9} {:>9} {:>6}", "verified", "other", "ratio");
-    let mut runs: Vec<_> = (0..RUNS).map(|_| run(load).into_iter()).collect();
-    loop {
-        let mut rows: Vec<Row> = runs.iter_mut().filter_map(Iterator::next).collect();
-        rows.sort_by(|a, b| a.ratio().total_cmp(&b.ratio()));
-        let [least, .., greatest] = &rows[..] else { break };
-        let (least, greatest) = (least.ratio(), greatest.ratio());
-        let row = &rows[rows.len() / 2];
-        let (name, a, b) = (&row.name, row.verified, row.other);
-        println!("{name:36} {a:9.1} {b:9.1} {:6.2}  ({least:.2} to {greatest:.2})", a / b);
-    }
+/// A number without a fraction, with a comma before each three digits.
+fn grouped(number: f64) -> String {
+    let digits = format!("{number:.0}");
+    let at = |it: usize| it > 0 && (digits.len() - it).is_multiple_of(3);
+    digits
+        .char_indices()
+        .flat_map(|(it, digit)| at(it).then_some(',').into_iter().chain([digit]))
+        .collect()
 }
 
 fn main() {
-    match env::var(LOAD) {
-        Ok(load) => {
-            let (peers, size, messages, len) = LOADS[load.parse::<usize>().unwrap()];
-            table(&Load::new(peers, size, messages, len));
+    if let Ok(what) = env::var(WHAT) {
+        return measure(&what);
+    }
+    let words: Vec<String> = env::args().skip(1).filter(|it| !it.starts_with('-')).collect();
+    let most = words.iter().find_map(|it| it.parse().ok()).unwrap_or(usize::MAX);
+    let names: Vec<&String> = words.iter().filter(|it| it.parse::<usize>().is_err()).collect();
+    let is_wanted = |name: &str| names.is_empty() || names.iter().any(|it| *it == name);
+    let table = |what: &str, measured: fn(&str, usize) -> Vec<Vec<f64>>| {
+        head(what);
+        for (name, _, [before, after], numbers) in ROWS {
+            for number in numbers.iter().filter(|it| is_wanted(name) && **it <= most) {
+                let name_of_row = format!("{before}{}{after}", grouped(*number as f64));
+                row(&name_of_row, &measured(name, *number));
+            }
         }
-        Err(_) => {
-            let peers: Vec<usize> = env::args().filter_map(|it| it.parse().ok()).collect();
-            let is_wanted = |load: &usize| peers.is_empty() || peers.contains(&LOADS[*load].0);
-            (0..LOADS.len()).filter(is_wanted).for_each(show);
+    };
+    if names.is_empty() || names.iter().any(|it| *it != "bytes") {
+        table("nanoseconds a call", times);
+        if Command::new("valgrind").arg("--version").output().is_ok_and(|it| it.status.success()) {
+            table("instructions a call", instructions);
+        }
+    }
+    if is_wanted("bytes") && most >= BYTES[0] {
+        head("bytes");
+        for number in BYTES.into_iter().filter(|it| *it <= most) {
+            let name = format!("a cached message, of {}", grouped(number as f64));
+            row(&name, &bytes("gets", number));
         }
     }
 }

@@ -35,8 +35,8 @@ pub struct Broadcast<'a, B> {
 }
 
 impl<B> Broadcast<'_, B> {
-    /// Returns the bytes to send, which [`Node::payload`](crate::Node::payload) of another node reads. A clone of `Bytes` or `Arc<[u8]>` shares
-    /// them with the cache.
+    /// Returns the bytes to send, which [`Node::payload`](crate::Node::payload) of another node reads. A clone of `Bytes` or
+    /// `Arc<[u8]>` shares them with the cache.
     pub fn payload(&self) -> &B {
         &self.payload
     }
