@@ -3,7 +3,7 @@ ghost use Rattle.std.specs.Prelude.{◌≡◌, ◌+◌, ◌↔◌, ◌&&◌, ◌
 ghost use Rattle.futures.specs.Poll.{IfReady, OnPending};
 ghost use Rattle.std.specs.Arc.{arc_value};
 ghost use Rattle.futures.specs.Task.{Hears, IsArmed, Keeps};
-ghost use Rattle.broadcast_mailbox.specs.Account.{counted_of, one_if};
+ghost use Rattle.broadcast_mailbox.specs.Account.{IsSettled, counted_of, one_if};
 ghost use Rattle.broadcast_mailbox.specs.Attended.{ready};
 ghost use Rattle.broadcast_mailbox.specs.Ends.{IngressEnd, MailboxEnd, SharedInbox};
 ghost use Rattle.broadcast_mailbox.specs.Watch.{BroadcastsOnly};
@@ -196,10 +196,7 @@ where
     pub fn settle(self, tally: Tally<A>) -> Result<Settled, (Self, Tally<A>)>
         requires accounts { (A.all ≡ A.parts) × (K.all ≡ K.parts) }
         ensures whole { (is_err result ≡ false) ↔ (tally.parts ≡ A.parts) }
-        ensures accepted { IfOk result (λ settled. tally.accepted ≡ settled.applied
-            + settled.refused + settled.skipped + settled.given_up) }
-        ensures taken { IfOk result (λ settled. settled.applied + settled.refused ≡ self.taken) }
-        ensures refused { IfOk result (λ settled. settled.refused ≡ self.refused) }
+        ensures sums { IfOk result (IsSettled tally self.taken self.refused) }
         ensures broadcasts { IfOk result (λ settled.
             BroadcastsOnly V.watched → settled.skipped ≡ 0) }
         ensures unchanged_on_error { IfErr result (λ both. (both.0 ≡ self) × (both.1 ≡ tally)) }

@@ -7,7 +7,7 @@ ghost use Rattle.futures.specs.Task.{Hears, IsArmed, Keeps};
 ghost use Rattle.broadcast_mailbox.specs.Queue.{waiting};
 ghost use Rattle.broadcast_mailbox.specs.Attended.{ready};
 ghost use Rattle.broadcast_mailbox.specs.Ends.{SharedInbox};
-ghost use Rattle.broadcast_mailbox.specs.Account.{TallyState, counted_of, is_accepted, tallied};
+ghost use Rattle.broadcast_mailbox.specs.Account.{TallyState, IsSettled, counted_of, is_accepted, tallied};
 ghost use Rattle.broadcast_mailbox.specs.Watch.{BroadcastsOnly};
 ghost use Rattle.broadcast_mailbox.specs.Mailbox.{MailboxState, mailbox_after};
 ghost use Rattle.broadcast_mailbox.specs.Tickets.{Call, Runs, IsLawful};
@@ -253,10 +253,7 @@ impl<T: Queueable + Drop, A: Account, K: Account, V: Watch<D>, D> Shared<T, Book
     ) -> Settled
         requires accounts { (A.all ≡ A.parts) × (K.all ≡ K.parts) }
         requires whole { tally.old.parts ≡ A.all }
-        ensures accepted { tally.old.accepted
-            ≡ result.applied + result.refused + result.skipped + result.given_up }
-        ensures taken { result.applied + result.refused ≡ taker.old.share.amount }
-        ensures refused { result.refused ≡ taker.old.refused }
+        ensures sums { IsSettled tally.old taker.old.share.amount taker.old.refused result }
         ensures broadcasts { BroadcastsOnly V.watched → result.skipped ≡ 0 }
     {
         let (settled, woken) = self.state.lock(rt).settle(taker, tally);

@@ -1,5 +1,6 @@
 //! The report of a started engine.
-ghost use Rattle.std.specs.Prelude.{◌≡◌, ◌+◌, ◌↔◌, false, is_err, IfOk, IfErr};
+ghost use Rattle.std.specs.Prelude.{◌≡◌, ◌↔◌, false, is_err, IfOk, IfErr};
+ghost use Rattle.broadcast_mailbox.specs.Account.{IsSettled};
 ghost use Rattle.broadcast_mailbox.specs.Watch.{BroadcastsOnly};
 
 use broadcast_core::{Digestible, PublicKey};
@@ -58,11 +59,7 @@ where
     pub fn settle(self, tally: Tally<A>) -> Result<Settled, (Self, Tally<A>)>
         requires accounts { (A.all ≡ A.parts) × (K.all ≡ K.parts) }
         ensures whole { (is_err result ≡ false) ↔ (tally.parts ≡ A.parts) }
-        ensures accepted { IfOk result (λ settled. tally.accepted ≡ settled.applied
-            + settled.refused + settled.skipped + settled.given_up) }
-        ensures taken { IfOk result (λ settled.
-            settled.applied + settled.refused ≡ self.requests.taken) }
-        ensures refused { IfOk result (λ settled. settled.refused ≡ self.requests.refused) }
+        ensures sums { IfOk result (IsSettled tally self.requests.taken self.requests.refused) }
         ensures broadcasts { IfOk result (λ settled.
             BroadcastsOnly V.watched → settled.skipped ≡ 0) }
         ensures unchanged_on_error { IfErr result (λ both. (both.0 ≡ self) × (both.1 ≡ tally)) }
