@@ -1,5 +1,6 @@
 //! The mailbox of a node: the messages of callers, the inbox that queues them, and both ends.
 pub mod account;
+pub mod awaited;
 pub mod books;
 pub mod dropped;
 pub mod get;

@@ -1,9 +1,6 @@
-//! The reply to a request: where it goes, how its caller waits, and what a future makes of it.
-ghost use Rattle.std.specs.Prelude.{◌≡◌, ◌<◌, ◌-◌, ◌↔◌, Result, Bool, not, ⊤, IfOk, IsSome, IfSome};
+//! The reply to a request: where it goes, and how its caller waits.
+ghost use Rattle.std.specs.Prelude.{◌≡◌, ◌<◌, ◌-◌, ◌↔◌, Bool, not, ⊤, IfOk, IsSome, IfSome};
 ghost use Rattle.futures.specs.Channel.{completed_source, canceled_source};
-ghost use Rattle.futures.specs.Poll.{IfReady, OnPending};
-ghost use Rattle.futures.specs.declared.task.Poll.{Poll};
-ghost use Rattle.futures.specs.declared.channel.oneshot.Canceled.{Canceled};
 ghost use Rattle.std.specs.Ordering.{on, eq_of_both};
 ghost use Rattle.std.specs.Cmp.Rules.{comparing};
 ghost use Rattle.std.proofs.Common.{rules};
@@ -89,28 +86,6 @@ impl<M: Digestible + PartialEq> PartialEq for Reply<M> {
 
 impl<M: Digestible + Eq> Eq for Reply<M> {
     ghost laws = { Prim.search (comparing, rules) };
-}
-
-/// A future whose reply comes through a channel.
-pub(super) trait Returns {
-    /// The reply.
-    type Reply;
-
-    /// The output of the future.
-    type Output;
-
-    /// What a poll returns, by what the channel returned.
-    ghost returns: { Self → Poll (Result Self.Reply Canceled) → Poll Self.Output };
-
-    /// The future once it has given its result.
-    ghost spent: { Self → Self };
-
-    /// Returns what a poll returns if the channel returned `polled`, and keeps whether that was its
-    /// result.
-    fn returned(&mut self, polled: Poll<Result<Self::Reply, Canceled>>) -> Poll<Self::Output>
-        ensures value { result ≡ returns self.old polled }
-        ensures done { IfReady result (λ output. self.new ≡ spent self.old) }
-        ensures same { OnPending result (self.new ≡ self.old) };
 }
 
 /// Returns what a poll of the channel would return, and registers nobody.
