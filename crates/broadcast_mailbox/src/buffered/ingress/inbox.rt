@@ -76,13 +76,6 @@ impl<T> Inbox<T> {
         }
     }
 
-    // Returns how many places the ready list has.
-    pub(super) fn size(&self) -> usize
-        ensures { result ≡ self.now.queue.size }
-    {
-        self.queue.size()
-    }
-
     /// Asks whoever takes the requests to stop.
     pub fn request_stop(&mut self)
         ensures { RequestsStop self.old self.new }

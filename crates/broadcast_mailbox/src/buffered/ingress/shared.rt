@@ -1,7 +1,6 @@
 //! The inbox that the ends of a mailbox share, and the law of its tickets.
 ghost use Rattle.std.specs.Prelude.{◌≡◌, ◌+◌, ◌||◌, [], true, false, IfOk, ℕ, List};
 ghost use Rattle.std.specs.Arc.{arc_value};
-ghost use Rattle.std.specs.NonZero.{non_zero_usize_get};
 ghost use Rattle.futures.specs.Poll.{IfReady, OnPending};
 ghost use Rattle.futures.specs.Task.{Hears, IsArmed, Keeps};
 ghost use Rattle.broadcast_mailbox.specs.Queue.{waiting};
@@ -34,8 +33,6 @@ use std::time::Clock;
 /// requests is woken after the lock is let go.
 #[derive(Drop)]
 pub(super) struct Shared<T: Named, A: Bookkeeping> {
-    // How many places the ready list has.
-    size: usize,
     // Fires once a request is queued.
     queued: Source,
     // Fires once a stop is requested.
@@ -54,7 +51,6 @@ impl<T: Named, A: Bookkeeping> Model for Shared<T, A> {
     ghost Value = { SharedInbox };
 
     ghost view = { λ it. record {
-      size = it.size;
       queued = it.queued.id;
       stopped = it.stopped.id;
     } };
@@ -70,10 +66,8 @@ impl<T: Named, A: Bookkeeping> Shared<T, A> {
     ) -> Self
         requires nothing_waits { waiting inbox.queue ≡ [] }
         requires nothing_counted { (A.waiting account ≡ 0) × (A.accepted account ≡ 0) }
-        ensures size { result.size ≡ inbox.queue.size }
     {
         Shared {
-            size: inbox.size(),
             queued: Source::new(),
             stopped: Source::new(),
             stop_requested: AtomicBool::new(false),
@@ -153,8 +147,6 @@ impl<T: Named + Drop, A: Bookkeeping> Shared<T, A> {
         account: A,
     ) -> Result<Arc<Self>, AllocError>
         requires { (A.waiting account ≡ 0) × (A.accepted account ≡ 0) }
-        ensures size { IfOk result (λ inbox.
-            (arc_value inbox).size ≡ non_zero_usize_get mailbox_size) }
     {
         let Ok((dropped, alertness)) = marks(alloc) else {
             drop::<_>(account);
