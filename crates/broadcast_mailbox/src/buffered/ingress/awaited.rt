@@ -8,9 +8,10 @@ ghost use Rattle.futures.specs.declared.task.Poll.TheVariants.{Ready};
 ghost use Rattle.futures.specs.declared.channel.oneshot.Canceled.{Canceled};
 
 use crate::MailboxError;
+use crate::buffered::ingress::bell::{Bell, Limit};
 use crate::buffered::ingress::look::Alertness;
 use crate::buffered::ingress::message::Queued;
-use crate::buffered::ingress::reply::{Answering, Bell, Limit, answered, try_receive};
+use crate::buffered::ingress::reply::{Answering, answered};
 use broadcast_core::Digestible;
 use futures::Future;
 use futures::channel::oneshot::{Canceled, Receiver};
@@ -246,5 +247,16 @@ impl<M: Digestible, K: Returns<M>> Future for Awaited<M, K> {
                 Poll::Ready(K::output(&self.digest, received))
             }
         }
+    }
+}
+
+/// Returns what a poll of the channel would return, and registers nobody.
+fn try_receive<T: Drop>(receiver: &mut Receiver<T>) -> Poll<Result<T, Canceled>>
+    ensures { completed_source receiver.new ≡ completed_source receiver.old }
+{
+    match receiver.try_recv() {
+        Ok(Some(reply)) => Poll::Ready(Ok(reply)),
+        Ok(None) => Poll::Pending,
+        Err(canceled) => Poll::Ready(Err(canceled)),
     }
 }
