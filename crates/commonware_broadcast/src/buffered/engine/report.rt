@@ -3,10 +3,8 @@ ghost use Rattle.std.specs.Prelude.{◌≡◌, ◌↔◌, false, is_err, IfOk, I
 ghost use Rattle.broadcast_mailbox.specs.Account.{IsSettled};
 ghost use Rattle.broadcast_mailbox.specs.Watch.{BroadcastsOnly};
 
-use broadcast_core::{Digestible, PublicKey};
-use broadcast_mailbox::buffered::{
-    Account, Books, Ingress, Message, Reply, Responder, Settled, Tally, Watch,
-};
+use broadcast_core::PublicKey;
+use broadcast_mailbox::buffered::{Account, Books, Ingress, Queueable, Settled, Tally, Watch};
 use engine_io::{CannotWait, EndCause, Metrics};
 use std::sync::Wait;
 
@@ -43,16 +41,14 @@ impl<P: PublicKey, Q> Report<P, Q> {
     }
 }
 
-impl<P: PublicKey, M: Digestible, S: Responder<Reply<M>> + Drop, G, R, A, K, V> Report<
+impl<P: PublicKey, T: Queueable + Drop, R: Wait + Drop, A, K, V, D> Report<
     P,
-    Ingress<Message<P, M, S, G>, R, Books<A, K, V, M::Digest>>,
+    Ingress<T, R, Books<A, K, V, D>>,
 >
 where
-    G: Responder<Option<Reply<M>>> + Drop,
-    R: Wait + Drop,
     A: Account,
     K: Account,
-    V: Watch<M::Digest>,
+    V: Watch<D>,
 {
     /// Tells what became of the counted requests, of which none is left. Fails only if the tally
     /// lacks a part.
