@@ -21,7 +21,7 @@ from harness.libraries import rows
 CRATES = {
     "broadcast_tests": (
         "tests",
-        "entries broadcast_core broadcast_mailbox broadcast_relay broadcast_world engine_io digest_strategies programs gossip "
+        "entries broadcast_core broadcast_mailbox broadcast_world engine_io digest_strategies programs gossip "
         "commonware_broadcast memory_network futures",
     ),
     "rates": ("bench/rates", "broadcast_core broadcast_mailbox commonware_broadcast memory_network futures"),

@@ -1,7 +1,8 @@
 -- Believed.
 -- What is counted of the requests that are made through tallies.
-use Rattle.std.specs.Prelude.{ℕ, ◌+◌, if◌then◌else◌, ◌&&◌, Bool, true, false}
+use Rattle.std.specs.Prelude.{◌≡◌, ℕ, ◌+◌, if◌then◌else◌, ◌&&◌, Bool, true, false}
 use Rattle.std.specs.Prelude.{Option, None, Some, Result, Ok, Err}
+use Rattle.broadcast_mailbox.specs.declared.buffered.ingress.account.Settled.{Settled}
 use Rattle.broadcast_mailbox.specs.declared.buffered.ingress.message.Request.{Request}
 use Rattle.broadcast_mailbox.specs.declared.buffered.ingress.message.Queued.{Queued}
 use Rattle.broadcast_mailbox.specs.declared.buffered.ingress.message.Queued.TheVariants as queued
@@ -39,3 +40,13 @@ tallied counted accepted tally =
 abbrev pub counted_of : {T : Type 0} → Option (Request T) → ℕ
 counted_of None = 0
 counted_of (Some request) = one_if request.counted
+
+-- what became of the requests that a whole tally counts, of which `takes` were taken and, of these,
+-- `refuses` were refused
+pub record IsSettled (tally : TallyState) (takes refuses : ℕ) (settled : Settled) : Type 0 where
+  -- each was applied, refused, skipped or given up
+  pub accepted :
+      tally.accepted ≡ settled.applied + settled.refused + settled.skipped + settled.given_up
+  -- one that was taken was applied or refused
+  pub taken : settled.applied + settled.refused ≡ takes
+  pub refused : settled.refused ≡ refuses

@@ -4,8 +4,6 @@ use Rattle.std.specs.Prelude.{◌≡◌, ℕ, Bool, true, if◌then◌else◌}
 use Rattle.std.specs.Prelude.{Option, None, Some, Result, Ok, Err, ok_or}
 use Rattle.std.specs.Ordering.{eq_by_cmp}
 use Rattle.std.specs.declared.cmp.Ordering.{Ordering}
-use Rattle.futures.specs.declared.task.Poll.{Poll}
-use Rattle.futures.specs.declared.task.Poll.TheVariants.{Ready, Pending}
 use Rattle.futures.specs.declared.channel.oneshot.Canceled.{Canceled}
 use Rattle.broadcast_core.specs.Carried.{Carried}
 
@@ -26,18 +24,13 @@ module _ {M D : Type 0} (cmp : D → D → Ordering) where
   abbrev pub message_for : D → Carried M D → Option (Carried M D)
   message_for digest reply = if eq_by_cmp cmp digest reply.digest then Some reply else None
 
-  -- what a poll of a subscription returns, by what the channel returned
-  abbrev pub subscription_returns :
-      D → Poll (Result (Carried M D) Canceled) → Poll (Result (Carried M D) Canceled)
-  subscription_returns digest Pending = Pending
-  subscription_returns digest (Ready (Ok reply)) =
-      Ready (ok_or (message_for digest reply) (record {}))
-  subscription_returns digest (Ready (Err canceled)) = Ready (Err canceled)
+  -- the output of a subscription, by what the channel returned
+  abbrev pub subscription_output : D → Result (Carried M D) Canceled → Result (Carried M D) Canceled
+  subscription_output digest (Ok reply) = ok_or (message_for digest reply) (record {})
+  subscription_output digest (Err canceled) = Err canceled
 
-  -- what a poll of a get returns, by what the channel returned
-  abbrev pub get_returns :
-      D → Poll (Result (Option (Carried M D)) Canceled) → Poll (Option (Carried M D))
-  get_returns digest Pending = Pending
-  get_returns digest (Ready (Ok (Some reply))) = Ready (message_for digest reply)
-  get_returns digest (Ready (Ok None)) = Ready None
-  get_returns digest (Ready (Err canceled)) = Ready None
+  -- the output of a get, by what the channel returned
+  abbrev pub get_output : D → Result (Option (Carried M D)) Canceled → Option (Carried M D)
+  get_output digest (Ok (Some reply)) = message_for digest reply
+  get_output digest (Ok None) = None
+  get_output digest (Err canceled) = None

@@ -2,10 +2,9 @@
 -- The ends of a mailbox.
 use Rattle.std.specs.Prelude.{ℕ, Bool}
 
--- the inbox that the ends share: how many places its ready list has, and its sources, of which one
--- fires once a request is queued, and the other once a stop is requested
+-- the inbox that the ends share: its sources, of which one fires once a request is queued, and the
+-- other once a stop is requested
 pub record SharedInbox : Type 0 where
-  pub size : ℕ
   pub queued : ℕ
   pub stopped : ℕ
 

@@ -14,6 +14,7 @@ pub use ingress::message::{
     All, Awaits, Broadcasts, Counts, Kind, Message, Named, Queueable, Queued, Request, Watch,
 };
 pub use ingress::queue::{Overflow, Pending, Policy};
-pub use ingress::reply::{Answering, Fixed, Reply, Responder};
+pub use ingress::reply::{Answering, Reply};
+pub use ingress::responder::{Fixed, Responder};
 pub use ingress::shared::ticket_law;
 pub use ingress::subscription::Subscription;

@@ -8,3 +8,6 @@ pub mod TwoRuns
 pub mod Requests
 pub mod SameAnswers
 pub mod Nodes
+pub mod Answered
+pub mod Relay
+pub mod Relayed

@@ -1,5 +1,5 @@
 // SPDX-License-Identifier: Apache-2.0
-//! Many nodes and a hostile network, step by step.
+//! Many nodes and a hostile network, step by step; and the relay of messages to another network.
 #![tactic(auto)]
 
 mod apply;
@@ -10,6 +10,7 @@ mod made;
 mod node;
 mod nodes;
 mod packet;
+pub mod relay;
 mod run;
 mod state;
 mod step;

@@ -7,7 +7,7 @@ use Rattle.broadcast_core.specs.Handed.{handed}
 use Rattle.broadcast_core.specs.Sent.{sent}
 use Rattle.broadcast_core.specs.Setting.{Setting}
 use Rattle.broadcast_mailbox.specs.declared.buffered.ingress.message.Message.{Message}
-use Rattle.broadcast_mailbox.specs.declared.buffered.ingress.reply.Fixed.{Fixed}
+use Rattle.broadcast_mailbox.specs.declared.buffered.ingress.responder.Fixed.{Fixed}
 use Rattle.engine_io.specs.declared.input.Turn.{Turn}
 use Rattle.engine_io.specs.declared.network.NetworkFailed.{NetworkFailed}
 use Rattle.engine_io.specs.Counters.{Counted, number_at, raised, is_counted_as}

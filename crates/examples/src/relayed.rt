@@ -2,7 +2,7 @@
 use super::two_nodes::message;
 use anyhow::Error;
 use broadcast_mailbox::buffered::{Mailbox, channel};
-use broadcast_relay::{Relayed, relay_to};
+use broadcast_world::relay::{Relayed, relay_to};
 use commonware_broadcast::{Digested, TestMessage};
 use std::alloc::{AllocError, AllocGlobal, Global};
 use std::io::Write;

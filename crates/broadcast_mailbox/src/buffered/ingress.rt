@@ -1,5 +1,7 @@
 //! The mailbox of a node: the messages of callers, the inbox that queues them, and both ends.
 pub mod account;
+pub mod awaited;
+mod bell;
 pub mod books;
 pub mod dropped;
 pub mod get;
@@ -10,5 +12,6 @@ pub mod mailbox;
 pub mod message;
 pub mod queue;
 pub mod reply;
+pub mod responder;
 pub mod shared;
 pub mod subscription;

@@ -1,6 +1,6 @@
 //! An engine with a mailbox of its own.
 ghost use Rattle.std.specs.Prelude.{◌≡◌, IfOk};
-ghost use Rattle.std.specs.NonZero.{non_zero_u32_get, non_zero_usize_get};
+ghost use Rattle.std.specs.NonZero.{non_zero_u32_get};
 ghost use Rattle.broadcast_mailbox.specs.Account.{TallyState};
 ghost use Rattle.broadcast_mailbox.specs.Ends.{IngressEnd, MailboxEnd};
 ghost use Rattle.commonware_broadcast.specs.Fresh.{fresh};
@@ -67,8 +67,6 @@ where
         ensures no_history { IfOk result (λ ends.
             ends.0 ≡ fresh cfg ends.0.requests ends.0.node.outlet) }
         ensures own_mailbox { IfOk result (λ ends. ends.1.inbox ≡ ends.0.requests.inbox) }
-        ensures mailbox_size { IfOk result (λ ends.
-            ends.1.inbox.size ≡ non_zero_usize_get cfg.mailbox_size) }
     {
         let (mailbox, ingress) = channel(rt, alloc, cfg.mailbox_size)?;
         Ok((Engine::over(alloc, cfg, ingress, Direct), mailbox))
@@ -111,8 +109,6 @@ where
         ensures no_history { IfOk result (λ ends.
             ends.0 ≡ fresh cfg ends.0.requests ends.0.node.outlet) }
         ensures own_mailbox { IfOk result (λ ends. ends.1.inbox ≡ ends.0.requests.inbox) }
-        ensures mailbox_size { IfOk result (λ ends.
-            ends.1.inbox.size ≡ non_zero_usize_get cfg.mailbox_size) }
         ensures whole { IfOk result (λ ends.
             ends.2 ≡ record { accepted = 0; parts = non_zero_u32_get parts }) }
     {

@@ -1,6 +1,5 @@
 //! Engines that are made and started by one call.
 ghost use Rattle.std.specs.Prelude.{◌≡◌, IfOk};
-ghost use Rattle.std.specs.NonZero.{non_zero_usize_get};
 ghost use Rattle.broadcast_mailbox.specs.Ends.{IngressEnd, MailboxEnd};
 ghost use Rattle.commonware_broadcast.specs.Fresh.{fresh};
 
@@ -36,8 +35,6 @@ where
     V: Receiver<P> + Movable,
     R: Runtime,
     ensures own_mailbox { IfOk result (λ started. started.0.inbox ≡ started.1.inbox) }
-    ensures mailbox_size { IfOk result (λ started.
-        started.1.inbox.size ≡ non_zero_usize_get cfg.mailbox_size) }
 {
     let Ok((engine, mailbox)) = new_engine::<P, M, B, T, R>(rt, cfg) else {
         drop::<_>(network);
@@ -60,8 +57,6 @@ where
     ensures no_history { IfOk result (λ ends.
         ends.0 ≡ fresh cfg ends.0.requests ends.0.node.outlet) }
     ensures own_mailbox { IfOk result (λ ends. ends.1.inbox ≡ ends.0.requests.inbox) }
-    ensures mailbox_size { IfOk result (λ ends.
-        ends.1.inbox.size ≡ non_zero_usize_get cfg.mailbox_size) }
 {
     Engine::new(rt.clone()?, rt.alloc(), cfg)
 }

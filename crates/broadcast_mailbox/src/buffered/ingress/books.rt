@@ -1,6 +1,6 @@
 //! The account of a mailbox.
 ghost use Rattle.std.specs.Prelude.{◌≡◌, ◌<◌, ◌≤◌, ◌+◌, ◌^◌, ◌&&◌, not, true, false};
-ghost use Rattle.broadcast_mailbox.specs.Account.{TallyState, one_if, is_accepted, tallied};
+ghost use Rattle.broadcast_mailbox.specs.Account.{TallyState, IsSettled, one_if, is_accepted, tallied};
 ghost use Rattle.broadcast_mailbox.specs.Booked.{is_queued, is_skipped};
 ghost use Rattle.broadcast_mailbox.specs.Mailbox.{count_skipped};
 ghost use Rattle.broadcast_mailbox.specs.Watch.{BroadcastsOnly};
@@ -232,10 +232,7 @@ impl<A: Account, K: Account, V: Watch<D>, D> Books<A, K, V, D> {
         requires nothing_waits { self.old.waiting ≡ 0 }
         requires accounts { (A.all ≡ A.parts) × (K.all ≡ K.parts) }
         requires whole { tally.old.parts ≡ A.all }
-        ensures accepted { tally.old.accepted
-            ≡ result.applied + result.refused + result.skipped + result.given_up }
-        ensures taken { result.applied + result.refused ≡ taker.old.share.amount }
-        ensures refused { result.refused ≡ taker.old.refused }
+        ensures sums { IsSettled tally.old taker.old.share.amount taker.old.refused result }
         ensures skipped { result.skipped ≡ self.old.skipped }
         ensures given_up { result.given_up ≡ self.old.given_up }
         ensures same { (self.new.waiting ≡ self.old.waiting)

@@ -1,7 +1,7 @@
 //! Of which digests subscriptions were dropped.
 ghost use Rattle.std.specs.Prelude.{◌≡◌, ◌++◌, ◌∷◌, ◌⊎◌, None, false, [], true};
 
-use crate::buffered::ingress::reply::Responder;
+use crate::buffered::ingress::responder::Responder;
 use futures::channel::oneshot::Receiver;
 use std::alloc::Global;
 use std::hint::spin_loop;

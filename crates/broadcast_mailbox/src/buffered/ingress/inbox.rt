@@ -7,7 +7,7 @@ ghost use Rattle.broadcast_mailbox.specs.Mailbox.{Enqueues, Takes, RequestsStop,
 ghost use Rattle.futures.specs.Poll.{IfReady, OnPending};
 ghost use Rattle.futures.specs.Task.{Hears, IsArmed, Keeps};
 ghost use Rattle.broadcast_mailbox.specs.Attended.{ready};
-ghost use Rattle.broadcast_mailbox.specs.Account.{TallyState, counted_of, is_accepted, one_if, tallied};
+ghost use Rattle.broadcast_mailbox.specs.Account.{TallyState, IsSettled, counted_of, is_accepted, one_if, tallied};
 ghost use Rattle.broadcast_mailbox.specs.Booked.{are_open, is_skipped, TakesBooked, TakesOut};
 ghost use Rattle.broadcast_mailbox.specs.Watch.{BroadcastsOnly};
 
@@ -74,13 +74,6 @@ impl<T> Inbox<T> {
             skipped: 0,
             given_up: 0,
         }
-    }
-
-    // Returns how many places the ready list has.
-    pub(super) fn size(&self) -> usize
-        ensures { result ≡ self.now.queue.size }
-    {
-        self.queue.size()
     }
 
     /// Asks whoever takes the requests to stop.
@@ -363,10 +356,7 @@ impl<T: Queueable + Drop, A: Account, K: Account, V: Watch<D>, D> Attended<T, Bo
     pub(super) fn settle(&mut self, taker: &mut Taker<K>, tally: &mut Tally<A>) -> (Settled, Woken)
         requires accounts { (A.all ≡ A.parts) × (K.all ≡ K.parts) }
         requires whole { tally.old.parts ≡ A.all }
-        ensures accepted { tally.old.accepted ≡ result.0.applied + result.0.refused
-            + result.0.skipped + result.0.given_up }
-        ensures taken { result.0.applied + result.0.refused ≡ taker.old.share.amount }
-        ensures refused { result.0.refused ≡ taker.old.refused }
+        ensures sums { IsSettled tally.old taker.old.share.amount taker.old.refused result.0 }
         // Those that were skipped before, and those that were given up before or wait.
         ensures skipped { result.0.skipped ≡ self.old.account.skipped }
         ensures given_up { result.0.given_up ≡ self.old.account.given_up

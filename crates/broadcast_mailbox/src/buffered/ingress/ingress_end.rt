@@ -3,7 +3,7 @@ ghost use Rattle.std.specs.Prelude.{◌≡◌, ◌+◌, ◌↔◌, ◌&&◌, ◌
 ghost use Rattle.futures.specs.Poll.{IfReady, OnPending};
 ghost use Rattle.std.specs.Arc.{arc_value};
 ghost use Rattle.futures.specs.Task.{Hears, IsArmed, Keeps};
-ghost use Rattle.broadcast_mailbox.specs.Account.{counted_of, one_if};
+ghost use Rattle.broadcast_mailbox.specs.Account.{IsSettled, counted_of, one_if};
 ghost use Rattle.broadcast_mailbox.specs.Attended.{ready};
 ghost use Rattle.broadcast_mailbox.specs.Ends.{IngressEnd, MailboxEnd, SharedInbox};
 ghost use Rattle.broadcast_mailbox.specs.Watch.{BroadcastsOnly};
@@ -124,7 +124,10 @@ impl<T: Named, R: Wait, A: Bookkeeping> Ingress<T, R, A> {
         ensures armed { result ≡ false → IsArmed cx.new }
         ensures kept { Keeps cx.old cx.new }
     {
-        self.inbox.poll_stopped(&self.rt, cx)
+        self.inbox
+            .state
+            .lock(&self.rt)
+            .poll_stopped(cx, &self.inbox.stopped)
     }
 
     /// Returns how many requests were accepted, and what became of them.
@@ -133,7 +136,7 @@ impl<T: Named, R: Wait, A: Bookkeeping> Ingress<T, R, A> {
         ensures add_up { result.accepted
             ≡ result.taken + result.skipped + result.waiting + result.given_up }
     {
-        self.inbox.counts(&self.rt)
+        self.inbox.state.lock(&self.rt).counts()
     }
 }
 
@@ -151,7 +154,12 @@ impl<T: Awaits + Queueable + Drop, R: Wait, A: Bookkeeping> Ingress<T, R, A> {
         ensures armed { OnPending result (IsArmed cx.new) }
         ensures kept { Keeps cx.old cx.new }
     {
-        let polled = self.inbox.poll_next(&self.rt, &mut self.taker, cx);
+        self.inbox.alertness.begin();
+        let polled = self
+            .inbox
+            .state
+            .lock(&self.rt)
+            .poll_next(&mut self.taker, cx, &self.inbox.queued);
         if let Poll::Ready(request) = &polled {
             self.tell_if_abandoned(&request.message);
         }
@@ -160,7 +168,9 @@ impl<T: Awaits + Queueable + Drop, R: Wait, A: Bookkeeping> Ingress<T, R, A> {
 
     /// Closes the mailbox and drops the requests that wait. Returns how many they were.
     pub fn close(&self) -> u64 {
-        self.inbox.close(&self.rt)
+        let (given_up, woken) = self.inbox.state.lock(&self.rt).close();
+        drop(woken);
+        given_up
     }
 }
 
@@ -168,7 +178,7 @@ impl<T: Awaits + Queueable + Drop, R: Wait> Ingress<T, R> {
     /// Removes the oldest request and returns it with its ticket, or `None` if none waits.
     pub fn take(&self) -> Option<(u64, T)> {
         let mut nobody = ();
-        let taken = self.inbox.take(&self.rt, &mut nobody);
+        let taken = self.inbox.state.lock(&self.rt).take(&mut nobody);
         if let Some((_, message)) = &taken {
             self.tell_if_abandoned(message);
         }
@@ -196,10 +206,7 @@ where
     pub fn settle(self, tally: Tally<A>) -> Result<Settled, (Self, Tally<A>)>
         requires accounts { (A.all ≡ A.parts) × (K.all ≡ K.parts) }
         ensures whole { (is_err result ≡ false) ↔ (tally.parts ≡ A.parts) }
-        ensures accepted { IfOk result (λ settled. tally.accepted ≡ settled.applied
-            + settled.refused + settled.skipped + settled.given_up) }
-        ensures taken { IfOk result (λ settled. settled.applied + settled.refused ≡ self.taken) }
-        ensures refused { IfOk result (λ settled. settled.refused ≡ self.refused) }
+        ensures sums { IfOk result (IsSettled tally self.taken self.refused) }
         ensures broadcasts { IfOk result (λ settled.
             BroadcastsOnly V.watched → settled.skipped ≡ 0) }
         ensures unchanged_on_error { IfErr result (λ both. (both.0 ≡ self) × (both.1 ≡ tally)) }
@@ -213,7 +220,8 @@ where
             mut taker,
             rt,
         } = self;
-        let settled = inbox.settle(&rt, &mut taker, &mut tally);
+        let (settled, woken) = inbox.state.lock(&rt).settle(&mut taker, &mut tally);
+        drop(woken);
         drop::<_>((inbox, taker, rt));
         drop::<_>(tally);
         Ok(settled)

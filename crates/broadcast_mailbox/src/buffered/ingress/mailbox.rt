@@ -1,7 +1,7 @@
 //! The mailbox through which callers on any thread reach a node.
 ghost use Rattle.std.specs.Prelude.{◌≡◌, IfOk, OnErr, ⊤};
 ghost use Rattle.std.specs.Arc.{arc_value};
-ghost use Rattle.std.specs.NonZero.{non_zero_u32_get, non_zero_usize_get};
+ghost use Rattle.std.specs.NonZero.{non_zero_u32_get};
 ghost use Rattle.broadcast_mailbox.specs.Account.{TallyState, is_accepted, is_taken_up, tallied};
 ghost use Rattle.broadcast_mailbox.specs.Booked.{is_watched};
 ghost use Rattle.broadcast_mailbox.specs.Ends.{IngressEnd, MailboxEnd};
@@ -33,7 +33,6 @@ pub fn channel<P: PublicKey, M: Digestible, R: Clone + Drop>(
     mailbox_size: NonZeroUsize,
 ) -> Result<(Mailbox<P, M, R>, Ingress<Incoming<P, M>, R>), AllocError>
     ensures same_inbox { IfOk result (λ ends. ends.0.inbox ≡ ends.1.inbox) }
-    ensures size { IfOk result (λ ends. ends.0.inbox.size ≡ non_zero_usize_get mailbox_size) }
     ensures nothing_taken { IfOk result (λ ends. (ends.1.taken ≡ 0) × (ends.1.refused ≡ 0)) }
 {
     open(rt, alloc, mailbox_size, (), ())
@@ -49,7 +48,6 @@ fn open<P: PublicKey, M: Digestible, R: Clone + Drop, A: Bookkeeping>(
 ) -> Result<(Mailbox<P, M, R, A>, Ingress<Incoming<P, M>, R, A>), AllocError>
     requires { (A.waiting account ≡ 0) × (A.accepted account ≡ 0) }
     ensures same_inbox { IfOk result (λ ends. ends.0.inbox ≡ ends.1.inbox) }
-    ensures size { IfOk result (λ ends. ends.0.inbox.size ≡ non_zero_usize_get mailbox_size) }
     ensures taker { IfOk result (λ ends. (ends.1.taken ≡ A.taken taker)
         × (ends.1.refused ≡ A.refusals taker)) }
 {
@@ -97,7 +95,6 @@ where
     requires taken { (taken.name ≡ K.name) × (taken.parts ≡ K.parts) }
     requires one { (K.all ≡ K.parts) × (K.parts ≡ 1) }
     ensures same_inbox { IfOk result (λ ends. ends.0.inbox ≡ ends.1.inbox) }
-    ensures size { IfOk result (λ ends. ends.0.inbox.size ≡ non_zero_usize_get mailbox_size) }
     ensures whole { IfOk result (λ ends.
         ends.2 ≡ record { accepted = 0; parts = non_zero_u32_get parts }) }
     ensures nothing_taken { IfOk result (λ ends. (ends.1.taken ≡ 0) × (ends.1.refused ≡ 0)) }

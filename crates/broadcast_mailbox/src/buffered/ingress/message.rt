@@ -9,7 +9,8 @@ ghost use Rattle.broadcast_mailbox.specs.Booked.{answer_of};
 
 use crate::buffered::ingress::dropped::Abandoned;
 use crate::buffered::ingress::queue::{Pending, Policy};
-use crate::buffered::ingress::reply::{Reply, Responder};
+use crate::buffered::ingress::reply::Reply;
+use crate::buffered::ingress::responder::Responder;
 use crate::{Feedback, MailboxError};
 use broadcast_core::{Closable, Digested, Digestible, PublicKey, Recipients};
 use std::alloc::AllocError;

@@ -62,13 +62,6 @@ impl<T> Queue<T> {
         }
     }
 
-    /// Returns how many places the ready list has.
-    pub(super) fn size(&self) -> usize
-        ensures { result ≡ self.now.size }
-    {
-        self.size
-    }
-
     /// Returns how many requests wait.
     pub(super) fn len(&self) -> usize
         ensures { result ≡ length (waiting self.now) }

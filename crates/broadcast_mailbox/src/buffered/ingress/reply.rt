@@ -1,24 +1,18 @@
-//! The reply to a request: where it goes, how its caller waits, and what a future makes of it.
-ghost use Rattle.std.specs.Prelude.{◌≡◌, ◌<◌, ◌-◌, ◌↔◌, Result, Bool, not, ⊤, IfOk, IsSome, IfSome};
+//! The reply to a request, and the channel by which it comes.
+ghost use Rattle.std.specs.Prelude.{◌≡◌, ⊤, IfOk};
 ghost use Rattle.futures.specs.Channel.{completed_source, canceled_source};
-ghost use Rattle.futures.specs.Poll.{IfReady, OnPending};
-ghost use Rattle.futures.specs.declared.task.Poll.{Poll};
-ghost use Rattle.futures.specs.declared.channel.oneshot.Canceled.{Canceled};
 ghost use Rattle.std.specs.Ordering.{on, eq_of_both};
 ghost use Rattle.std.specs.Cmp.Rules.{comparing};
 ghost use Rattle.std.proofs.Common.{rules};
-ghost use Rattle.std.specs.Duration.{as_nanos};
 
-use crate::buffered::ingress::look::{Alertness, Mark};
+use crate::buffered::ingress::bell::Bell;
+use crate::buffered::ingress::look::Alertness;
+use crate::buffered::ingress::responder::Responder;
 use broadcast_core::{Digested, Digestible};
 use futures::channel::oneshot;
-use futures::channel::oneshot::{Canceled, Receiver};
-use futures::task::Poll;
 use std::alloc::{AllocError, Global};
 use std::marker::Model;
-use std::sync::{Arc, Wait};
-use std::thread::Parker;
-use std::time::{Clock, Duration, Instant};
+use std::sync::Arc;
 
 /// A message with the digest that it replies to, which is the one that the message goes by.
 #[derive(Drop)]
@@ -89,144 +83,6 @@ impl<M: Digestible + PartialEq> PartialEq for Reply<M> {
 
 impl<M: Digestible + Eq> Eq for Reply<M> {
     ghost laws = { Prim.search (comparing, rules) };
-}
-
-/// A future whose reply comes through a channel.
-pub(super) trait Returns {
-    /// The reply.
-    type Reply;
-
-    /// The output of the future.
-    type Output;
-
-    /// What a poll returns, by what the channel returned.
-    ghost returns: { Self → Poll (Result Self.Reply Canceled) → Poll Self.Output };
-
-    /// The future once it has given its result.
-    ghost spent: { Self → Self };
-
-    /// Returns what a poll returns if the channel returned `polled`, and keeps whether that was its
-    /// result.
-    fn returned(&mut self, polled: Poll<Result<Self::Reply, Canceled>>) -> Poll<Self::Output>
-        ensures value { result ≡ returns self.old polled }
-        ensures done { IfReady result (λ output. self.new ≡ spent self.old) }
-        ensures same { OnPending result (self.new ≡ self.old) };
-}
-
-/// Returns what a poll of the channel would return, and registers nobody.
-pub(super) fn try_receive<T: Drop>(receiver: &mut Receiver<T>) -> Poll<Result<T, Canceled>>
-    ensures { completed_source receiver.new ≡ completed_source receiver.old }
-{
-    match receiver.try_recv() {
-        Ok(Some(reply)) => Poll::Ready(Ok(reply)),
-        Ok(None) => Poll::Pending,
-        Err(canceled) => Poll::Ready(Err(canceled)),
-    }
-}
-
-/// Takes the reply to one request.
-pub trait Responder<T> {
-    /// The results that `is_closed` may return.
-    ghost may_answer: { Self → Bool → Type 0 };
-
-    /// The results that `send` may return.
-    ghost may_deliver: { Self → Bool → Type 0 };
-
-    /// Returns whether the caller no longer waits for the reply.
-    fn is_closed(&self) -> bool
-        ensures { may_answer self.now result };
-
-    /// Sends the reply and returns whether it was accepted. A reply that was not is dropped.
-    fn send(self, value: T) -> bool
-        ensures { may_deliver self result };
-}
-
-/// A responder whose field decides whether it is closed.
-#[derive(Clone, Copy, Debug, PartialEq, Eq)]
-pub struct Fixed {
-    /// Whether the responder is closed.
-    pub closed: bool,
-}
-
-impl<T: Drop> Responder<T> for Fixed {
-    ghost may_answer = { λ fixed answer. answer ≡ fixed.closed };
-
-    ghost may_deliver = { λ fixed answer. answer ≡ not fixed.closed };
-
-    fn is_closed(&self) -> bool {
-        self.closed
-    }
-
-    fn send(self, _value: T) -> bool {
-        let Fixed { closed } = self;
-        !closed
-    }
-}
-
-/// Another thread may drop the receiver at any time, so either call may return either result.
-impl<T: Drop> Responder<T> for oneshot::Sender<T> {
-    ghost may_answer = { λ _ _. ⊤ };
-
-    ghost may_deliver = { λ _ _. ⊤ };
-
-    fn is_closed(&self) -> bool {
-        self.is_canceled()
-    }
-
-    fn send(self, value: T) -> bool {
-        oneshot::Sender::send(self, value).is_ok()
-    }
-}
-
-/// The bell of one call, which ends the wait of its caller once the reply is there. One thread
-/// waits for it.
-#[derive(Drop)]
-pub(super) struct Bell {
-    rung: Mark,
-    parker: Parker,
-    // Of the taker of the request if it was awake, so that the thread looks before it sleeps.
-    taker: Option<Arc<Alertness>>,
-}
-
-impl Bell {
-    /// Creates a bell that was not rung. The thread looks before it sleeps if `taker`.
-    pub(super) fn new(taker: Option<Arc<Alertness>>) -> Self {
-        Bell {
-            rung: Mark::new(),
-            parker: Parker::new(),
-            taker,
-        }
-    }
-
-    /// Ends the wait of the thread, or the next one.
-    fn ring(&self) {
-        if self.taker.is_some() {
-            self.rung.set();
-        }
-        self.parker.unpark();
-    }
-
-    /// Waits until the bell is rung. May return before.
-    pub(super) fn wait(&self, rt: &impl Wait) {
-        if !self.is_seen() {
-            self.parker.park(rt);
-        }
-    }
-
-    /// Waits until the bell is rung, and sleeps for no longer than `time`. May return before.
-    pub(super) fn wait_timeout(&self, rt: &impl Wait, time: Duration) {
-        if !self.is_seen() {
-            self.parker.park_timeout(rt, time);
-        }
-    }
-
-    /// Looks for some microseconds whether the bell is rung, if the thread looks at all.
-    fn is_seen(&self) -> bool {
-        match &self.taker {
-            Some(taker) => taker.look_for_reply(&self.rung),
-            None => false,
-        }
-    }
 }
 
 /// Where the reply to a caller goes. Dropping it cancels the caller's future.
@@ -311,41 +167,5 @@ impl<T: Drop> Responder<T> for Answering<T> {
         let is_sent = sender.send(value).is_ok();
         Self::ring(bell);
         is_sent
-    }
-}
-
-/// The time for which a caller waits at most.
-#[derive(Clone, Copy)]
-pub(super) struct Limit {
-    // `None` if the clock could not be read.
-    start: Option<Instant>,
-    time: Duration,
-}
-
-impl Limit {
-    /// Creates the limit of a wait for `time` from now on.
-    pub(super) fn new(clock: &impl Clock, time: Duration) -> Self
-        ensures { result.time ≡ time }
-    {
-        Limit {
-            start: Instant::now(clock).ok(),
-            time,
-        }
-    }
-
-    /// Returns the time that is left, or `None` if there is none or the clock can't be read.
-    pub(super) fn left(&self, clock: &impl Clock) -> Option<Duration> {
-        let passed = self.start?.elapsed(clock).ok()?;
-        self.left_after(passed)
-    }
-
-    /// Returns the time that is left once `passed` is over, or `None` if there is none.
-    fn left_after(&self, passed: Duration) -> Option<Duration>
-        ensures some { IsSome result ↔ (as_nanos passed < as_nanos self.now.time) }
-        ensures rest { IfSome result (λ left.
-            as_nanos left ≡ as_nanos self.now.time - as_nanos passed) }
-    {
-        let left = self.time.checked_sub(passed)?;
-        if left.is_zero() { None } else { Some(left) }
     }
 }

@@ -1,26 +1,22 @@
 //! The inbox that the ends of a mailbox share, and the law of its tickets.
-ghost use Rattle.std.specs.Prelude.{◌≡◌, ◌+◌, ◌||◌, [], true, false, IfOk, ℕ, List};
+ghost use Rattle.std.specs.Prelude.{◌≡◌, [], true, IfOk, ℕ, List};
 ghost use Rattle.std.specs.Arc.{arc_value};
-ghost use Rattle.std.specs.NonZero.{non_zero_usize_get};
-ghost use Rattle.futures.specs.Poll.{IfReady, OnPending};
-ghost use Rattle.futures.specs.Task.{Hears, IsArmed, Keeps};
 ghost use Rattle.broadcast_mailbox.specs.Queue.{waiting};
-ghost use Rattle.broadcast_mailbox.specs.Attended.{ready};
 ghost use Rattle.broadcast_mailbox.specs.Ends.{SharedInbox};
-ghost use Rattle.broadcast_mailbox.specs.Account.{TallyState, counted_of, is_accepted, tallied};
+ghost use Rattle.broadcast_mailbox.specs.Account.{TallyState, is_accepted, tallied};
 ghost use Rattle.broadcast_mailbox.specs.Watch.{BroadcastsOnly};
 ghost use Rattle.broadcast_mailbox.specs.Mailbox.{MailboxState, mailbox_after};
 ghost use Rattle.broadcast_mailbox.specs.Tickets.{Call, Runs, IsLawful};
 
 use crate::MailboxError;
-use crate::buffered::ingress::account::{Account, Bookkeeping, Settled, Tally};
-use crate::buffered::ingress::books::{Books, Taker};
+use crate::buffered::ingress::account::{Account, Bookkeeping, Tally};
+use crate::buffered::ingress::books::Books;
 use crate::buffered::ingress::dropped::Dropped;
 use crate::buffered::ingress::inbox::{Attended, Inbox};
 use crate::buffered::ingress::look::Alertness;
-use crate::buffered::ingress::message::{Counts, Named, Queueable, Queued, Request, Watch};
+use crate::buffered::ingress::message::{Named, Queueable, Queued, Watch};
 use broadcast_core::Closable;
-use futures::task::{Context, Poll, Source};
+use futures::task::Source;
 use std::alloc::{AllocError, Global};
 use std::marker::Model;
 use std::num::NonZeroUsize;
@@ -30,22 +26,20 @@ use std::time::Clock;
 
 /// The inbox that the ends of a mailbox share.
 ///
-/// A call takes the lock once, and makes one call of the inbox under it. The task that takes the
-/// requests is woken after the lock is let go.
+/// Each call of an end takes the lock once, and makes one call of the inbox under it. The task that
+/// takes the requests is woken after the lock is let go.
 #[derive(Drop)]
 pub(super) struct Shared<T: Named, A: Bookkeeping> {
-    // How many places the ready list has.
-    size: usize,
     // Fires once a request is queued.
-    queued: Source,
+    pub(super) queued: Source,
     // Fires once a stop is requested.
-    stopped: Source,
+    pub(super) stopped: Source,
     // Set before the inbox is asked to stop, so that who polls need not take the lock to see that
     // nobody asked.
     stop_requested: AtomicBool,
     dropped: Arc<Dropped<T::Digest>>,
-    alertness: Arc<Alertness>,
-    state: Mutex<Attended<T, A>>,
+    pub(super) alertness: Arc<Alertness>,
+    pub(super) state: Mutex<Attended<T, A>>,
 }
 
 impl<T: Named, A: Bookkeeping> Model for Shared<T, A> {
@@ -54,7 +48,6 @@ impl<T: Named, A: Bookkeeping> Model for Shared<T, A> {
     ghost Value = { SharedInbox };
 
     ghost view = { λ it. record {
-      size = it.size;
       queued = it.queued.id;
       stopped = it.stopped.id;
     } };
@@ -70,10 +63,8 @@ impl<T: Named, A: Bookkeeping> Shared<T, A> {
     ) -> Self
         requires nothing_waits { waiting inbox.queue ≡ [] }
         requires nothing_counted { (A.waiting account ≡ 0) × (A.accepted account ≡ 0) }
-        ensures size { result.size ≡ inbox.queue.size }
     {
         Shared {
-            size: inbox.size(),
             queued: Source::new(),
             stopped: Source::new(),
             stop_requested: AtomicBool::new(false),
@@ -126,23 +117,6 @@ impl<T: Named, A: Bookkeeping> Shared<T, A> {
     pub(super) fn stop_requested(&self) -> bool {
         self.stop_requested.load(Ordering::SeqCst)
     }
-
-    /// Returns whether a stop was requested. If not, the task is woken once one is.
-    pub(super) fn poll_stopped(&self, rt: &impl Wait, cx: &mut Context<'_>) -> bool
-        ensures heard { result ≡ false → Hears cx.new self.now.stopped }
-        ensures armed { result ≡ false → IsArmed cx.new }
-        ensures kept { Keeps cx.old cx.new }
-    {
-        self.state.lock(rt).poll_stopped(cx, &self.stopped)
-    }
-
-    /// Returns how many requests were accepted, and what became of them.
-    pub(super) fn counts(&self, rt: &impl Wait) -> Counts
-        ensures { result.accepted
-            ≡ result.taken + result.skipped + result.waiting + result.given_up }
-    {
-        self.state.lock(rt).counts()
-    }
 }
 
 impl<T: Named + Drop, A: Bookkeeping> Shared<T, A> {
@@ -153,8 +127,6 @@ impl<T: Named + Drop, A: Bookkeeping> Shared<T, A> {
         account: A,
     ) -> Result<Arc<Self>, AllocError>
         requires { (A.waiting account ≡ 0) × (A.accepted account ≡ 0) }
-        ensures size { IfOk result (λ inbox.
-            (arc_value inbox).size ≡ non_zero_usize_get mailbox_size) }
     {
         let Ok((dropped, alertness)) = marks(alloc) else {
             drop::<_>(account);
@@ -192,38 +164,6 @@ impl<T: Queueable + Drop, A: Bookkeeping> Shared<T, A> {
         self.alertness.ask();
         queued
     }
-
-    /// Takes the oldest request. If none waits, the task is woken once one is queued.
-    pub(super) fn poll_next(
-        &self,
-        rt: &impl Wait,
-        taker: &mut A::Taker,
-        cx: &mut Context<'_>,
-    ) -> Poll<Request<T>>
-        ensures taken { A.taken taker.new ≡ A.taken taker.old + counted_of (ready result) }
-        ensures refused { A.refusals taker.new ≡ A.refusals taker.old }
-        ensures undecided { IfReady result (λ request.
-            A.undecided taker.new ≡ (request.counted || A.undecided taker.old)) }
-        ensures decides_none { OnPending result (A.undecided taker.new ≡ A.undecided taker.old) }
-        ensures heard { OnPending result (Hears cx.new self.now.queued) }
-        ensures armed { OnPending result (IsArmed cx.new) }
-        ensures kept { Keeps cx.old cx.new }
-    {
-        self.alertness.begin();
-        self.state.lock(rt).poll_next(taker, cx, &self.queued)
-    }
-
-    /// Takes the oldest request, or `None` if none waits.
-    pub(super) fn take(&self, rt: &impl Wait, taker: &mut A::Taker) -> Option<(u64, T)> {
-        self.state.lock(rt).take(taker)
-    }
-
-    /// Closes the inbox. Returns how many requests were given up.
-    pub(super) fn close(&self, rt: &impl Wait) -> u64 {
-        let (given_up, woken) = self.state.lock(rt).close();
-        drop(woken);
-        given_up
-    }
 }
 
 impl<T: Queueable + Drop, A: Account, K: Account, V: Watch<D>, D> Shared<T, Books<A, K, V, D>> {
@@ -242,26 +182,6 @@ impl<T: Queueable + Drop, A: Account, K: Account, V: Watch<D>, D> Shared<T, Book
         drop(woken);
         self.alertness.ask();
         queued
-    }
-
-    /// Closes the inbox and settles its account with the tally that has all parts.
-    pub(super) fn settle(
-        &self,
-        rt: &impl Wait,
-        taker: &mut Taker<K>,
-        tally: &mut Tally<A>,
-    ) -> Settled
-        requires accounts { (A.all ≡ A.parts) × (K.all ≡ K.parts) }
-        requires whole { tally.old.parts ≡ A.all }
-        ensures accepted { tally.old.accepted
-            ≡ result.applied + result.refused + result.skipped + result.given_up }
-        ensures taken { result.applied + result.refused ≡ taker.old.share.amount }
-        ensures refused { result.refused ≡ taker.old.refused }
-        ensures broadcasts { BroadcastsOnly V.watched → result.skipped ≡ 0 }
-    {
-        let (settled, woken) = self.state.lock(rt).settle(taker, tally);
-        drop(woken);
-        settled
     }
 }
 

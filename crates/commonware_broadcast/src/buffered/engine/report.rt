@@ -1,11 +1,10 @@
 //! The report of a started engine.
-ghost use Rattle.std.specs.Prelude.{◌≡◌, ◌+◌, ◌↔◌, false, is_err, IfOk, IfErr};
+ghost use Rattle.std.specs.Prelude.{◌≡◌, ◌↔◌, false, is_err, IfOk, IfErr};
+ghost use Rattle.broadcast_mailbox.specs.Account.{IsSettled};
 ghost use Rattle.broadcast_mailbox.specs.Watch.{BroadcastsOnly};
 
-use broadcast_core::{Digestible, PublicKey};
-use broadcast_mailbox::buffered::{
-    Account, Books, Ingress, Message, Reply, Responder, Settled, Tally, Watch,
-};
+use broadcast_core::PublicKey;
+use broadcast_mailbox::buffered::{Account, Books, Ingress, Queueable, Settled, Tally, Watch};
 use engine_io::{CannotWait, EndCause, Metrics};
 use std::sync::Wait;
 
@@ -42,27 +41,21 @@ impl<P: PublicKey, Q> Report<P, Q> {
     }
 }
 
-impl<P: PublicKey, M: Digestible, S: Responder<Reply<M>> + Drop, G, R, A, K, V> Report<
+impl<P: PublicKey, T: Queueable + Drop, R: Wait + Drop, A, K, V, D> Report<
     P,
-    Ingress<Message<P, M, S, G>, R, Books<A, K, V, M::Digest>>,
+    Ingress<T, R, Books<A, K, V, D>>,
 >
 where
-    G: Responder<Option<Reply<M>>> + Drop,
-    R: Wait + Drop,
     A: Account,
     K: Account,
-    V: Watch<M::Digest>,
+    V: Watch<D>,
 {
     /// Tells what became of the counted requests, of which none is left. Fails only if the tally
     /// lacks a part.
     pub fn settle(self, tally: Tally<A>) -> Result<Settled, (Self, Tally<A>)>
         requires accounts { (A.all ≡ A.parts) × (K.all ≡ K.parts) }
         ensures whole { (is_err result ≡ false) ↔ (tally.parts ≡ A.parts) }
-        ensures accepted { IfOk result (λ settled. tally.accepted ≡ settled.applied
-            + settled.refused + settled.skipped + settled.given_up) }
-        ensures taken { IfOk result (λ settled.
-            settled.applied + settled.refused ≡ self.requests.taken) }
-        ensures refused { IfOk result (λ settled. settled.refused ≡ self.requests.refused) }
+        ensures sums { IfOk result (IsSettled tally self.requests.taken self.requests.refused) }
         ensures broadcasts { IfOk result (λ settled.
             BroadcastsOnly V.watched → settled.skipped ≡ 0) }
         ensures unchanged_on_error { IfErr result (λ both. (both.0 ≡ self) × (both.1 ≡ tally)) }

@@ -1,5 +1,0 @@
-use Rattle.std.proofs.Common.{◌≡◌}
-use Rattle.broadcast_mailbox.proofs.buffered.ingress.get.Get.wait_timeout.Given as goal
-
-abbrev pub invariant-loop : goal.invariant-loop
-invariant-loop g l = l.get ≡ l.fn.self

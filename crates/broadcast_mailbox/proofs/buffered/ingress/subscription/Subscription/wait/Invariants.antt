@@ -1,5 +1,0 @@
-use Rattle.std.proofs.Common.{◌≡◌}
-use Rattle.broadcast_mailbox.proofs.buffered.ingress.subscription.Subscription.wait.Given as goal
-
-abbrev pub invariant-loop : goal.invariant-loop
-invariant-loop g l = l.subscription ≡ l.fn.self
