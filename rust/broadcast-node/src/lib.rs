@@ -62,6 +62,8 @@ mod node;
 mod outbox;
 #[allow(unsafe_code, reason = "it calls the library")]
 mod raw;
+#[cfg(feature = "recorder")]
+pub mod recorder;
 mod slots;
 mod snapshot;
 mod taken;
