@@ -10,9 +10,9 @@
  * Nothing checks a call from C. A caller makes sure of this:
  *  - A `broadcast_store` or `broadcast_log` is all zeros before its first call, and is read and written
  *    by these functions only. It may be moved, and is never copied: two copies free twice.
- *  - No pointer is NULL, except one whose count is 0. What a pointer to const leads to does not
- *    change during the call. What any other pointer leads to is initialised (a buffer `out` need not
- *    be: no function reads one), is used by nothing else during the call, and overlaps nothing. A
+ *  - No pointer is NULL, except one whose count is 0. Nothing changes what a pointer to const leads to
+ *    during the call. Any other pointer leads to something initialised (a buffer `out` need not be:
+ *    no function reads one), which nothing else uses during the call, and which overlaps nothing. A
  *    `bool` is 0 or 1.
  *  - There is one call at a time for each store and each log. Calls may come from several threads.
  *  - There is no call from a signal handler, or in the forked child of a process with threads.
@@ -324,9 +324,9 @@ uint32_t broadcast_log_lag(broadcast_log *log, uint64_t floor, const broadcast_s
                            size_t spans_len, uint64_t *bytes);
 
 /* ---- Buckets: what a rate allows. Times are nanoseconds of one clock; one that is before `at` counts
- * as `at`. A bucket may be overdrawn: what it gains pays the debt first. Whoever charges only while the
- * level is above 0 is charged, in any span of time, at most `burst`, `rate` for the span, and the
- * greatest cost. No call allocates. ---- */
+ * as `at`. A bucket may be overdrawn: what it gains pays the debt first. A caller that charges only
+ * while the level is above 0 spends in any period at most `burst`, `rate` for the period, and one
+ * charge. No call allocates. ---- */
 
 /* Returns the whole tokens that the bucket has at this time: 0 while it is overdrawn. */
 uint64_t broadcast_bucket_level(const broadcast_bucket *bucket, uint64_t now);

@@ -77,7 +77,7 @@ static void look(store_state *to)
     is_counting = true;
 }
 
-/* The call with this number. What it reports is left as it was if it fails. */
+/* The call with this number. If it fails, it leaves what it would report as it was. */
 static uint32_t call(int at)
 {
     static const uint64_t gone[] = {4, 8, 11};

@@ -40,7 +40,7 @@ impl Pair {
         Pair { cache, node, tickets: [const { Vec::new() }; 2], limits }
     }
 
-    /// Takes the message twice. What leaves the cache is sometimes forgotten, so that it stays there.
+    /// Takes the message twice. Sometimes the result is forgotten, so that evicted messages stay in memory.
     fn take(&mut self, peer: &Key, n: u64, is_forgotten: bool) {
         let len = charge(&message(n)) as usize;
         let (taken, received) = (

@@ -16,7 +16,7 @@ type Failure = Box<dyn Error + Send + Sync>;
 /// A CURVE public key.
 type Key = [u8; 32];
 
-/// How many packets wait for a peer, or for the engine. What comes beyond is lost.
+/// The most packets that wait for a peer, or for the engine. Those beyond are lost.
 const QUEUE: i32 = 1_000;
 
 /// A message of some bytes, whose digest is their hash.
