@@ -109,7 +109,7 @@ static uint32_t call(int at)
     }
 }
 
-/* Moves out the handles of all messages that left, one by one. Returns how many there were. */
+/* Moves out the handles of all evicted messages, one by one. Returns how many there were. */
 static size_t move_all(void)
 {
     uint64_t handle;

@@ -42,7 +42,7 @@ use std::ops::Deref;
 /// assert_eq!(message.outcome, Outcome::Inserted);
 /// assert_eq!(message.served, [ticket]); // .. are replied to with the message:
 /// assert_eq!(message.bytes(), b"hello");
-/// drop(message); // and what left the cache
+/// drop(message); // and what it evicted
 /// assert_eq!(receiver.get(&digest), Some(&b"hello"[..]));
 ///
 /// let garbage: Arc<[u8]> = Arc::from(&b"garbage"[..]);

@@ -48,7 +48,7 @@ enum Next {
     Left {
         handles: usize,
     },
-    /// Moves out all that left, whose number nothing reports.
+    /// Moves out all that was evicted, whose number nothing reports.
     LeftAll,
     Charged(Key, Digest),
     Nothing,
@@ -133,11 +133,11 @@ impl Store {
                 }
             }
             (Next::Left { handles }, Call::Left(_, moved)) => {
-                assert_eq!(moved.len(), handles, "not all that left is moved out");
+                assert_eq!(moved.len(), handles, "not all evicted handles are moved out");
                 self.left(moved, seen);
             }
             (Next::LeftAll, Call::Left(room, moved)) => {
-                assert!(*room >= self.held.len(), "not all that left may be moved out");
+                assert!(*room >= self.held.len(), "not all evicted handles may be moved out");
                 self.left(moved, seen);
             }
             (Next::Charged(peer, digest), Call::Take(it)) => {
