@@ -76,7 +76,7 @@ impl Drop for Bomb {
     }
 }
 
-/// A take reports whom it served before it drops evicted messages.
+/// A take reports which tickets it served before it drops evicted messages.
 #[test]
 fn a_drop_that_panics_loses_no_reply() -> Result<(), Error> {
     let mut cache = Cache::new(key(0), 1, u64::MAX)?;
