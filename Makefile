@@ -31,6 +31,7 @@ try:
 	@echo "try: NOTHING WAS PROVED: make test proves"
 
 check:
+	$(NEEDS_RT)
 	@scripts/gate static
 
 quick:
@@ -57,6 +58,7 @@ install:
 	@scripts/install
 
 border:
+	$(NEEDS_RT)
 	@echo "border: building the static library by both compilers, and calling it from C and Rust"
 	@scripts/border
 
@@ -74,18 +76,22 @@ soak:
 	@scripts/relays soak
 
 runs:
+	$(NEEDS_RT)
 	@echo "runs: running each program over its stored runs, as both compilers built it"
 	@scripts/stored_runs
 
 generated:
+	$(NEEDS_RT)
 	@echo "generated: running programs over long generated inputs, and comparing them with models"
 	@scripts/generated_runs
 
 faults:
+	$(NEEDS_RT)
 	@echo "faults: refusing each allocation, read and write of a program in turn"
 	@scripts/faults
 
 mutants:
+	$(NEEDS_RT)
 	@echo "mutants: trying wrong bodies, each of which the prover or a test must refuse"
 	@scripts/mutants
 
@@ -93,5 +99,6 @@ pictures:
 	@scripts/pictures
 
 bench:
+	$(NEEDS_RT)
 	@echo "bench: timing replay beside a plain Rust program"
 	@bench/compare

@@ -10,9 +10,9 @@
  * Nothing checks a call from C. A caller makes sure of this:
  *  - A `broadcast_store` or `broadcast_log` is all zeros before its first call, and is read and written
  *    by these functions only. It may be moved, and is never copied: two copies free twice.
- *  - No pointer is NULL, except one whose count is 0. What a pointer to const leads to does not
- *    change during the call. What any other pointer leads to is initialised (a buffer `out` need not
- *    be: no function reads one), is used by nothing else during the call, and overlaps nothing. A
+ *  - No pointer is NULL, except one whose count is 0. Nothing changes what a pointer to const leads to
+ *    during the call. Any other pointer leads to something initialised (a buffer `out` need not be:
+ *    no function reads one), which nothing else uses during the call, and which overlaps nothing. A
  *    `bool` is 0 or 1.
  *  - There is one call at a time for each store and each log. Calls may come from several threads.
  *  - There is no call from a signal handler, or in the forked child of a process with threads.
@@ -105,7 +105,7 @@ typedef struct {
     bool kept;     /* whether the message is cached, and no message of its digest was */
     size_t served; /* how many tickets `broadcast_store_served` copies */
     size_t cached; /* cached messages */
-    size_t left;   /* messages that left the cache, whose handles were not moved out */
+    size_t left;   /* evicted messages whose handles were not moved out */
 } broadcast_stored;
 
 /* The numbers of payloads by what happened to them. Each stops at UINT64_MAX. */
@@ -187,7 +187,7 @@ void broadcast_store_free(broadcast_store *store);
 uint32_t broadcast_store_peers(broadcast_store *store, const broadcast_name *names,
                                size_t names_len);
 /* Takes the message of the handle under the key `peer`, charged `charge` bytes. The message is cached if a list has its
- * digest then and none had before. It leaves the cache when the last list drops its digest. */
+ * digest then and none had before. It is evicted when its digest leaves the last list. */
 uint32_t broadcast_store_take(broadcast_store *store, const broadcast_name *peer,
                               const uint8_t digest[32], size_t charge, uint64_t handle,
                               broadcast_stored *out);
@@ -200,10 +200,10 @@ uint32_t broadcast_store_receive(broadcast_store *store, const broadcast_name *p
  * room for `out_len` tickets. */
 uint32_t broadcast_store_served(broadcast_store *store, uint64_t *out, size_t out_len,
                                 size_t *needed);
-/* Moves the handles of messages that left the cache to the front of `out`, which has room for `out_len`
- * handles, and sets `moved` to their number: OK. Those that left last come first; of several that one
- * call evicted no order is promised. A take that was OK or a peer set adds each message that was cached
- * before it and is not after it, once; a message that was never cached does not leave. Never fails for
+/* Moves the handles of evicted messages to the front of `out`, which has room for `out_len` handles, and
+ * sets `moved` to their number: OK. Those that were evicted last come first; of several that one call
+ * evicted no order is promised. A take that was OK or a peer set evicts each message that was cached
+ * before it and is not after it, once; a message that was never cached is not evicted. Never fails for
  * memory. */
 uint32_t broadcast_store_left(broadcast_store *store, uint64_t *out, size_t out_len,
                               size_t *moved);
@@ -324,9 +324,9 @@ uint32_t broadcast_log_lag(broadcast_log *log, uint64_t floor, const broadcast_s
                            size_t spans_len, uint64_t *bytes);
 
 /* ---- Buckets: what a rate allows. Times are nanoseconds of one clock; one that is before `at` counts
- * as `at`. A bucket may be overdrawn: what it gains pays the debt first. Whoever charges only while the
- * level is above 0 is charged, in any span of time, at most `burst`, `rate` for the span, and the
- * greatest cost. No call allocates. ---- */
+ * as `at`. A bucket may be overdrawn: what it gains pays the debt first. A caller that charges only
+ * while the level is above 0 spends in any period at most `burst`, `rate` for the period, and one
+ * charge. No call allocates. ---- */
 
 /* Returns the whole tokens that the bucket has at this time: 0 while it is overdrawn. */
 uint64_t broadcast_bucket_level(const broadcast_bucket *bucket, uint64_t now);

@@ -92,7 +92,7 @@ static void keeps_what_it_has(void)
     must(floor == 9 && needed == 1 && room[0].from == 12 && room[0].to == 13);
 }
 
-/* What is refused changes nothing. */
+/* A refused call changes nothing. */
 static void refuses(void)
 {
     static const broadcast_span wrong[][2] = {

@@ -42,7 +42,7 @@ static size_t write_packet(const char *text, uint8_t packet[4 + LONGEST])
     return 4 + length;
 }
 
-/* Frees the messages that left the store. */
+/* Frees the evicted messages. */
 static void free_left(void)
 {
     uint64_t handles[8];

@@ -38,7 +38,7 @@ static void counts_what_is_lacking(void)
     must(broadcast_outbox_lag(NULL, 0, NULL, 0, 0, NULL, 0, &bytes) == BROADCAST_OK && bytes == 0);
 }
 
-/* What is refused changes nothing. */
+/* A refused call changes nothing. */
 static void refuses(void)
 {
     size_t index = 9;

@@ -77,7 +77,7 @@ static void look(store_state *to)
     is_counting = true;
 }
 
-/* The call with this number. What it reports is left as it was if it fails. */
+/* The call with this number. If it fails, it leaves what it would report as it was. */
 static uint32_t call(int at)
 {
     static const uint64_t gone[] = {4, 8, 11};
@@ -109,7 +109,7 @@ static uint32_t call(int at)
     }
 }
 
-/* Moves out the handles of all messages that left, one by one. Returns how many there were. */
+/* Moves out the handles of all evicted messages, one by one. Returns how many there were. */
 static size_t move_all(void)
 {
     uint64_t handle;

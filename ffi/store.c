@@ -24,7 +24,7 @@ static broadcast_stored take(const broadcast_name *key, const uint8_t name[32], 
     return stored;
 }
 
-/* Whether so many handles of messages that left are moved out, at most two, and these ones. */
+/* Whether so many handles of evicted messages are moved out, at most two, and these ones. */
 static bool left_are(size_t count, uint64_t first, uint64_t second)
 {
     uint64_t handles[2] = {9, 9};

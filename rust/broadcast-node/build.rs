@@ -4,7 +4,7 @@
 //! 2. the library that the repository's `make lib` left in `crates/broadcast_c/out`;
 //! 3. the library in `lib/TARGET` beside this file.
 //!
-//! Where there is none the build fails. A documentation links nothing, so it is built without a library where `DOCS_RS` is
+//! Without one the build fails. Documentation links nothing, so it is built without a library if `DOCS_RS` is
 //! set, as docs.rs does.
 
 use std::env;

@@ -38,7 +38,7 @@ def tests_of(crate, target):
     unit = [kind for kind, file in (("--lib", "lib.rs"), ("--bins", "main.rs")) if (sources / file).exists()]
     # With little optimisation the crate is built in a few seconds.
     fast = ["--config", f"profile.release.package.{crate}.opt-level=1"]
-    return [*fast, "--release", "-p", crate, *(unit if target == "unit" else ["--test", target])]
+    return [*fast, "--release", "--all-features", "-p", crate, *(unit if target == "unit" else ["--test", target])]
 
 
 def run(crate, by, env):

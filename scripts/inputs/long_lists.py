@@ -34,7 +34,7 @@ NODES = tuple("123")
 HOSTILE = tuple("89")
 # The node whose peer sets never hold a hostile key.
 WITHOUT_HOSTILE = "3"
-# Who steps name: at times a node that is not there, or a hostile key that is unknown.
+# The nodes that steps name: at times one that is not there, or an unknown hostile key.
 NAMED = (*NODES * 6, "4")
 SENDERS = (*HOSTILE * 7, *["7"] * 2)
 

@@ -1,10 +1,10 @@
 -- What calls are charged over a span.
-use Rattle.std.proofs.Common.{◌≡◌, ◌≤◌, ◌⊎◌, ℕ, ◌+◌, ◌*◌, ◌-◌, min, max, true, false, List, [], ◌∷◌, arith, refl, ap, inl, inr}
+use Rattle.std.proofs.Common.{◌≡◌, ◌≤◌, ◌⊎◌, ℕ, ◌+◌, ◌*◌, ◌-◌, min, max, true, false, List, [], ◌∷◌, arith, refl, ap, inl, inr, le-leb}
 use Rattle.std.specs.Prelude.{if◌then◌else◌}
 use Rattle.std.proofs.lemmas.Bool.{leb-true}
 use Rattle.std.proofs.Math.Nat.{mul-le-mul_left}
 use Rattle.gossip.specs.declared.bucket.Call.{Call}
-use Rattle.gossip.specs.Tokens.{Tokens, lacking_at, level_at, owed_at, after_charging, is_charged, after_call, after_calls, charged, GoesOn, end_of, excess, IsBounded}
+use Rattle.gossip.specs.Tokens.{Tokens, lacking_at, level_at, owed_at, after_charging, is_charged, after_call, after_calls, charged, AreRested, cost_of, GoesOn, end_of, excess, IsBounded}
 
 -- an earlier lack is at most what came in between above a later one
 pub more : (lacking rate x y z : ℕ) → x ≤ y + z
@@ -90,3 +90,9 @@ bounded b calls before span after from e g =
       | inl none ↦ omega (arith, none)
       | inr most ↦ omega (arith, most, rate, burst)
     ])
+
+-- whoever rests until the tokens are there is charged at each call
+pub rested : (b : Tokens) (cs : List Call) → AreRested b cs → charged b cs ≡ cost_of cs
+rested b [] r = refl
+rested b (c ∷ cs) r = rw (le-leb (max 1 c.needed * 1000000000) (level_at b c.now) r.0)
+    (ap (λ (x : ℕ). c.cost + x) (rested (after_charging b c.now c.cost) cs r.1))

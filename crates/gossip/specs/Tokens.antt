@@ -56,6 +56,17 @@ abbrev pub charged : Tokens → List Call → ℕ
 charged b [] = 0
 charged b (c ∷ cs) = charge_of b c + charged (after_call b c) cs
 
+-- each call is made when what it needs is there, and at least a token, as after a rest until then
+abbrev pub AreRested : Tokens → List Call → Type 0
+AreRested b [] = Unit {0}
+AreRested b (c ∷ cs) = (max 1 c.needed * 1000000000 ≤ level_at b c.now)
+    × AreRested (after_charging b c.now c.cost) cs
+
+-- what calls cost together
+abbrev pub cost_of : List Call → ℕ
+cost_of [] = 0
+cost_of (c ∷ cs) = c.cost + cost_of cs
+
 -- from this time on, the times of calls do not go back
 abbrev pub GoesOn : ℕ → List Call → Type 0
 GoesOn from [] = Unit {0}

@@ -1,7 +1,7 @@
 //! A bucket of tokens, in whole numbers.
 ghost use Rattle.std.specs.Prelude.{◌≡◌, ◌+◌, ◌*◌, ◌-◌, ◌/◌, ◌^◌, ◌<◌, ◌≤◌, IfSome, IfNone, ℕ, min};
 ghost use Rattle.gossip.specs.Tokens.{lacking_at, level_at, owed_at, after_charging, capped};
-ghost use Rattle.gossip.specs.Tokens.{charged, after_calls, IsBounded};
+ghost use Rattle.gossip.specs.Tokens.{charged, after_calls, cost_of, AreRested, IsBounded};
 
 use std::marker::Model;
 
@@ -152,11 +152,15 @@ pub struct Call {
 }
 
 /// Charges each call whose tokens are there, one after another, and returns what was charged. It
-/// shows what the decisions of `level` and `charge` amount to over a history.
+/// shows what the decisions of `level` and `charge` amount to over a history. A caller that rests
+/// until a token is ready before it charges again is charged at each call (`rested`), and so no
+/// more than `bounded` says.
 pub fn charge_all(bucket: &mut Bucket, calls: &[Call]) -> u128
     ensures charged { result ≡ charged bucket.old calls.now }
     ensures left { bucket.new ≡ after_calls bucket.old calls.now }
     ensures bounded { IsBounded bucket.old calls.now }
+    ensures rested { AreRested bucket.old calls.now
+        → charged bucket.old calls.now ≡ cost_of calls.now }
 {
     let mut total: u128 = 0;
     for call in calls {

@@ -16,7 +16,7 @@ use std::num::NonZeroUsize;
 #[derive(Clone)]
 #[non_exhaustive]
 pub struct Config<P, C, D, T> {
-    /// The public key of this node. What it broadcasts is cached while the peer set has this key.
+    /// The public key of this node. Its broadcasts are cached while the peer set has this key.
     pub public_key: P,
     /// The number of requests that the mailbox holds before it returns [`Feedback::Backoff`](crate::Feedback).
     pub mailbox_size: NonZeroUsize,

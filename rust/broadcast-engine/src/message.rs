@@ -10,7 +10,7 @@ use std::sync::Arc;
 
 /// A message that encodes itself and has a digest of its own.
 pub trait Message: Send + Sync + Sized + 'static {
-    /// The name of a message. Whoever subscribes to it gets the message, so no two should share one.
+    /// The name of a message. A subscriber to it gets the message, so no two messages should share one.
     type Digest: Id;
     /// What a message is decoded with, for example a bound on its length.
     type Config: Send + Sync + 'static;

@@ -1,4 +1,11 @@
-//! What the program brings to an engine: peer sets and a network.
+//! The program brings peer sets and a network to an engine.
+//!
+//! A network owes an engine three things. It delivers each payload as one frame: whole, or not at all. It names as the
+//! sender of a payload only a key that the sender has shown to own. And its queues are bounded: a full one drops
+//! payloads, or lets the network wait, but never the engine.
+//!
+//! The repository's `rust/examples/zeromq` does this over ZeroMQ, with CURVE keys as identities. On more than one machine
+//! there is also commonware's authenticated network, which `broadcast-commonware` puts behind these traits.
 
 use crate::Id;
 use bytes::Bytes;

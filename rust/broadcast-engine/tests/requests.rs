@@ -47,7 +47,7 @@ async fn dropped_subscriptions_are_cleaned_up() {
     settle().await;
     assert_eq!(count(metrics, "waiters"), 0);
     assert_eq!(count(metrics, "subscribe.dropped"), 2);
-    // What was dropped does not come back with the message, and who asks anew gets it.
+    // A dropped subscription does not come back with the message, and a new one gets it.
     let anew = mailbox.subscribe(missing.digest());
     nodes.broadcast(0, &missing);
     assert_eq!(anew.await, Ok(missing));

@@ -80,7 +80,7 @@ async fn a_restored_engine_has_the_same_lists() {
     assert_eq!(mailbox.snapshot().await, Err(Canceled::Ended));
 }
 
-/// What a snapshot says of a message is not believed: neither its digest nor what it is charged.
+/// The engine believes nothing that a snapshot says of a message: neither its digest nor its charge.
 #[tokio::test(start_paused = true)]
 async fn a_restored_engine_goes_by_the_messages() {
     let (snapshot, messages) = two_lists().await;

@@ -5,8 +5,8 @@ use crate::{Error, raw};
 /// A bucket of tokens, which holds at most `burst` of them and gains `rate` a second. It may be overdrawn: what it gains
 /// then pays the debt first. Nothing is lost by rounding. The verified library decides.
 ///
-/// Whoever charges only while the level is above 0 is charged, in any span of time, at most `burst`, `rate` for the span,
-/// and the greatest cost. Times are nanoseconds of a clock that does not run backwards.
+/// A caller that charges only while the level is above 0 spends in any period at most `burst`, `rate` for the period, and
+/// one charge. Times are nanoseconds of a clock that does not run backwards.
 ///
 /// ```
 /// # fn main() -> Result<(), broadcast_node::Error> {

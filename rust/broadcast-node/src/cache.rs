@@ -169,7 +169,7 @@ impl<M> Cache<M> {
         Ok(Taken { outcome, served: self.tickets.served(), message, evicted })
     }
 
-    /// Moves the served tickets and the numbers of the messages that left out of the store. Returns how many left.
+    /// Moves the served tickets and the numbers of the evicted messages out of the store. Returns how many it evicted.
     #[inline(always)]
     fn report(&mut self, stored: &Stored) -> Result<usize, Error> {
         self.tickets.serve(stored.served, |room| self.store.served(room))?;

@@ -1,5 +1,5 @@
-//! A node that broadcasts messages, without input and output, and the cache in which it keeps them. What they
-//! decide is decided by a static library that is proved in Rattle.
+//! A node that broadcasts messages, without input and output, and the cache in which it keeps them. A static
+//! library that is proved in Rattle decides for both.
 //!
 //! A message goes by a digest of 32 bytes, and a peer by a key of at most 64. For each primary key the cache
 //! lists the newest digests received from it, up to a number of digests and a number of bytes, and keeps the
@@ -62,6 +62,8 @@ mod node;
 mod outbox;
 #[allow(unsafe_code, reason = "it calls the library")]
 mod raw;
+#[cfg(feature = "recorder")]
+pub mod recorder;
 mod slots;
 mod snapshot;
 mod taken;

@@ -20,8 +20,8 @@ use std::ops::Deref;
 
 /// A node without input and output: a cache that encodes, decodes and digests messages.
 ///
-/// What a [`Cache`] reports, a node reports too: it derefs to its cache. A message is a list of bytes. It is kept in the
-/// payload `B` that it came in, so it is not copied: `B` may be `Vec<u8>`, `Arc<[u8]>` or `bytes::Bytes`.
+/// A node derefs to its cache, so it reports all that a [`Cache`] reports. A message is a list of bytes. The node keeps it in
+/// the payload `B` that carried it, and copies nothing: `B` may be `Vec<u8>`, `Arc<[u8]>` or `bytes::Bytes`.
 ///
 /// ```
 /// use broadcast_node::{Key, Limits, Node, Outcome, Received, Recipients, Subscribed};
@@ -42,7 +42,7 @@ use std::ops::Deref;
 /// assert_eq!(message.outcome, Outcome::Inserted);
 /// assert_eq!(message.served, [ticket]); // .. are replied to with the message:
 /// assert_eq!(message.bytes(), b"hello");
-/// drop(message); // and what left the cache
+/// drop(message); // and what it evicted
 /// assert_eq!(receiver.get(&digest), Some(&b"hello"[..]));
 ///
 /// let garbage: Arc<[u8]> = Arc::from(&b"garbage"[..]);

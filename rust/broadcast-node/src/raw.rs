@@ -10,7 +10,12 @@ mod store;
 pub use coverage::{coverage_cover, coverage_end, coverage_has, coverage_missing};
 pub use log::OwnedLog;
 pub use outbox::{outbox_lag, outbox_next};
+#[cfg(not(feature = "recorder"))]
 pub use store::Store;
+
+/// With the feature `recorder` the calls of each store are noted.
+#[cfg(feature = "recorder")]
+pub(crate) use {crate::recorder::Store, store::Store as PlainStore};
 
 use crate::log::Message;
 use crate::{Bucket, Counters, Digest, Error, Invalid, Key, Listed, Outcome, Span, Ticket};

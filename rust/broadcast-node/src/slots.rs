@@ -1,5 +1,5 @@
 //! The messages of a cache, each at the place that is its number. The store knows a message by this number, and reports
-//! which ones left.
+//! which ones it evicted.
 
 use crate::taken::Evicted;
 use crate::{Digest, Error};
@@ -69,7 +69,7 @@ impl<M> Slots<M> {
         Ok(number)
     }
 
-    /// Frees the places of messages that left, at most `most`. `fill` writes their numbers, the newest first, and returns how
+    /// Frees the places of evicted messages, at most `most`. `fill` writes their numbers, the newest first, and returns how
     /// many they are; this returns that number. `put` or `evicted` returns the messages.
     pub fn release(
         &mut self,
@@ -88,7 +88,7 @@ impl<M> Slots<M> {
         Ok(left)
     }
 
-    /// Frees the places of all messages that left, as `release` does.
+    /// Frees the places of all evicted messages, as `release` does.
     pub fn release_all(&mut self, fill: impl FnOnce(&mut [u64]) -> usize) -> Result<usize, Error> {
         self.release(self.places.len() - self.free.len(), fill)
     }
@@ -119,12 +119,12 @@ impl<M> Slots<M> {
         self.places.get(usize::try_from(number).ok()?)?.as_ref()
     }
 
-    /// Returns the messages with their numbers, in any order. Those that left are among them if `has_left`.
+    /// Returns the messages with their numbers, in any order. Evicted ones are among them if `has_left`.
     pub fn iter(&self) -> impl Iterator<Item = (u64, &Slot<M>)> {
         (0..).zip(&self.places).filter_map(|(number, it)| Some((number, it.as_ref()?)))
     }
 
-    /// Returns whether messages that left are here still, because their `Evicted` was forgotten.
+    /// Returns whether evicted messages are here still, because their `Evicted` was forgotten.
     pub fn has_left(&self) -> bool {
         self.free.iter().any(|it| self.get(*it).is_some())
     }

@@ -17,7 +17,7 @@ pub struct Taken<'a, M> {
     pub served: &'a [Ticket],
     /// The message, which is the reply to them.
     pub message: Held<'a, M>,
-    /// The messages that left the cache.
+    /// The messages that the take evicted.
     pub evicted: Evicted<'a, M>,
 }
 
@@ -42,7 +42,7 @@ impl<M> Deref for Held<'_, M> {
     }
 }
 
-/// The messages that left the cache with a call, with their digests, in no promised order. Those that the caller does not
+/// The messages that a call evicted, with their digests, in no promised order. Those that the caller does not
 /// read are dropped with it.
 pub struct Evicted<'a, M> {
     /// The numbers of their places, the newest first.

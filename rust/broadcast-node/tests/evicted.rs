@@ -29,7 +29,7 @@ fn digest(n: u64) -> Digest {
     Digest::sha256(&n.to_be_bytes())
 }
 
-/// Most peers have lists of small messages, and one sends large ones: a message that left is gone after the call.
+/// Most peers have lists of small messages, and one sends large ones: an evicted message is gone after the call.
 #[test]
 fn memory_is_bounded_by_the_bytes_that_lists_are_charged() -> Result<(), Error> {
     const LARGE: usize = 1 << 20;
@@ -76,7 +76,7 @@ impl Drop for Bomb {
     }
 }
 
-/// Whoever waited is notified before messages are dropped.
+/// A take reports which tickets it served before it drops evicted messages.
 #[test]
 fn a_drop_that_panics_loses_no_reply() -> Result<(), Error> {
     let mut cache = Cache::new(key(0), 1, u64::MAX)?;
@@ -152,7 +152,7 @@ fn a_message_leaves_with_its_last_list() -> Result<(), Error> {
     Ok(())
 }
 
-/// A message that left is not seen any more, also if nobody dropped it.
+/// An evicted message is not seen any more, also if nobody dropped it.
 #[test]
 fn a_forgotten_result_leaves_no_ghost() -> Result<(), Error> {
     let alive = Rc::new(Cell::new(0));

@@ -155,7 +155,7 @@ fn a_report_shows_what_is_listed_and_nothing_that_is_not_covered() {
             model.arrive(message, 99);
         }
         let report = log.report().unwrap();
-        // Where a message covers stamps of an earlier one too, not all that is covered is shown.
+        // A message may cover stamps of an earlier one too; then a report shows less than is covered.
         assert!((0..101).all(|it| !report.has(it) || model.covers(it)), "{report:?}");
         assert!(model.listed().iter().all(|it| report.has(it.stamp)), "{report:?}");
         assert!((1..=model.floor()).all(|it| report.has(it)), "{report:?}");
@@ -171,7 +171,7 @@ fn a_report_is_cut_off_above() {
     }
     let report = log.report().unwrap();
     assert!(report.spans().len() == Coverage::MOST && report.has(631) && !report.has(641));
-    // What is above the top is sent once.
+    // A message above the top is sent once.
     assert_eq!(log.next(&report, 0, &[], 0, 1), log.find(641));
     assert_eq!(log.next(&report, 641, &[], 0, 1), log.find(651));
     assert_eq!(log.next(&report, 701, &[], 0, 1), None);

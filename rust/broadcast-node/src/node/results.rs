@@ -29,7 +29,7 @@ pub struct Broadcast<'a, B> {
     pub outcome: Outcome,
     /// The tickets that are replied to with the message.
     pub served: &'a [Ticket],
-    /// The payloads of the messages that left the cache.
+    /// The payloads of the evicted messages.
     pub evicted: Evicted<'a, B>,
     pub(super) payload: Held<'a, B>,
 }
@@ -67,7 +67,7 @@ pub struct Message<'a, B> {
     pub outcome: Outcome,
     /// The tickets that are replied to with the message.
     pub served: &'a [Ticket],
-    /// The payloads of the messages that left the cache.
+    /// The payloads of the evicted messages.
     pub evicted: Evicted<'a, B>,
     pub(super) payload: Held<'a, B>,
 }

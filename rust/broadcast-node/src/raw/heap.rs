@@ -90,7 +90,7 @@ unsafe extern "C" fn rattle_dealloc(p: *mut u8) {
     }
 }
 
-/// The addresses of the three. Whoever makes a store names them, so that a linker takes these functions
+/// The addresses of the three. A call that makes a store names them, so that a linker takes these functions
 /// and not those of an archive that has its own.
 pub fn addresses() -> [*const (); 3] {
     [rattle_alloc as *const (), rattle_realloc as *const (), rattle_dealloc as *const ()]

@@ -77,7 +77,7 @@ impl Store {
         done(unsafe { super::broadcast_store_served(&mut *self.handle.get(), at, len, &mut 0) })
     }
 
-    /// Moves the numbers of messages that left to the front of the room, the newest first. Returns how many. This never
+    /// Moves the numbers of evicted messages to the front of the room, the newest first. Returns how many. This never
     /// fails on a full handle, nor do the calls below that return no error.
     #[inline]
     pub fn left(&mut self, room: &mut [u64]) -> usize {

@@ -4,11 +4,10 @@
 //!     cargo run                                   starts three nodes on loopback, and waits for them
 //!     SECRET_KEY=.. cargo run -- PLACE NODE..     runs the node of this place among all nodes, each KEY@HOST:PORT
 
-use broadcast_engine::{Config, Digested, Engine, Fixed, Mailbox, Message, Recipients, Sequential};
+use broadcast_engine::{Config, Digested, Engine, Fixed, Mailbox, Message, Recipients};
 use bytes::Bytes;
 use sha2::{Digest, Sha256};
 use std::net::TcpListener;
-use std::num::NonZeroUsize;
 use std::{convert::Infallible, env, error::Error, process::Command, thread};
 use tokio::{runtime::Runtime, sync::mpsc};
 
@@ -16,7 +15,7 @@ type Failure = Box<dyn Error + Send + Sync>;
 /// A CURVE public key.
 type Key = [u8; 32];
 
-/// How many packets wait for a peer, or for the engine. What comes beyond is lost.
+/// The most packets that wait for a peer, or for the engine. Those beyond are lost.
 const QUEUE: i32 = 1_000;
 
 /// A message of some bytes, whose digest is their hash.
@@ -86,7 +85,7 @@ impl Node {
         let others = self.all.iter().filter(|it| it.0 != self.own.public_key);
         let connect = |(key, address): &(Key, String)| {
             let socket = self.zmq.socket(zmq::PUSH)?;
-            socket.set_curve_serverkey(key)?; // only who has its secret can read what is sent
+            socket.set_curve_serverkey(key)?; // only the owner of its secret can read what is sent
             socket.set_curve_publickey(&self.own.public_key)?;
             socket.set_curve_secretkey(&self.own.secret_key)?;
             socket.set_sndhwm(QUEUE)?;
@@ -138,16 +137,9 @@ impl Node {
     /// Starts an engine on the current runtime.
     fn start(&self) -> Result<Mailbox<Key, Text>, Failure> {
         self.authenticate()?;
-        let (engine, mailbox) = Engine::new(Config {
-            public_key: self.own.public_key,
-            mailbox_size: NonZeroUsize::MIN.saturating_add(1_023),
-            deque_size: 100,
-            byte_budget: 1 << 20,
-            priority: false,
-            codec_config: (),
-            peer_provider: Fixed::new(self.all.iter().map(|it| it.0).collect::<Vec<_>>()),
-            strategy: Sequential,
-        })?;
+        let peers = Fixed::new(self.all.iter().map(|it| it.0).collect::<Vec<_>>());
+        let config = Config::new(self.own.public_key, peers, ());
+        let (engine, mailbox) = Engine::new(config.deque_size(100).byte_budget(1 << 20))?;
         engine.start((self.connect()?, self.listen()?));
         Ok(mailbox)
     }
