@@ -642,16 +642,16 @@ fn who_brings_all_but_slowly_is_not_asked_alone() {
     let mut relay = with_three_peers();
     let mut came = 0;
     for now in (1..200).map(|it| it * 10_000) {
-        relay.report(now, 1, 4, Report::up_to(100));
-        relay.report(now, 2, 4, Report::up_to(100));
+        relay.report(now, 1, 4, Report::up_to(400));
+        relay.report(now, 2, 4, Report::up_to(400));
         (1..4).for_each(|it| while relay.frame(now, it).is_some() {});
         let top = relay.log(4).kept.top();
-        if now % 100_000 == 0 {
+        if now % 20_000 == 0 {
             bring(now, &mut relay, 1, top + 1..=top + 1);
         }
-        bring(now, &mut relay, 2, 1..=100);
+        bring(now, &mut relay, 2, 1..=400);
         relay.timeout(now);
-        came += if relay.log(4).kept.len() < 100 { 10_000 } else { 0 };
+        came += if relay.log(4).kept.len() < 400 { 10_000 } else { 0 };
     }
     assert!(came < SECOND, "{came}");
     // Who brought the last of it is asked from now on.
