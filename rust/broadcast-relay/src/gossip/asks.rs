@@ -17,7 +17,8 @@ pub struct Asks {
     /// When whom it is asked of was chosen, and when one of them brought something new.
     chosen: Time,
     brought: Time,
-    /// Once all up to here came, whoever brought the last of it is asked alone.
+    /// Once all up to here came, whoever brought the last of it is asked alone. If nothing came, whoever brings something first is: then it
+    /// is 0.
     goal: u64,
     last: Option<usize>,
 }
@@ -36,7 +37,7 @@ impl Log {
     /// A peer that is asked brought something new.
     pub fn note_brought(&mut self, now: Time, peer: usize, stamp: u64, size: u64) {
         self.asks.brought = now;
-        if stamp <= self.asks.goal {
+        if stamp <= self.asks.goal || (self.asks.goal == 0 && self.asks.last.is_none()) {
             self.asks.last = Some(peer);
         }
         if let Some((since, upto)) = &mut self.asks.late
@@ -58,7 +59,7 @@ impl Log {
             let nearest = shown.iter().map(|it| it.0).min_by_key(|it| links.each[*it].round_trip);
             let best = if may_return { Some(author) } else { nearest };
             best.into_iter().for_each(|it| self.ask_alone(now, it));
-        } else if asked.len() > 1 && self.has_all(&asked, &shown) {
+        } else if asked.len() > 1 && self.asks.last.is_some() && self.has_all(&asked, &shown) {
             let best = self.asks.last.filter(|it| asked.contains(it)).unwrap_or(asked[0]);
             self.ask_alone(now, best);
         } else {
@@ -80,8 +81,9 @@ impl Log {
                 false => (false, view.asked_at),
             };
         }
-        self.asks.chosen = now;
+        let late = self.asks.late.filter(|_| self.asks.goal == 0);
         self.excuse(now);
+        (self.asks.chosen, self.asks.late) = (now, late);
     }
 
     /// Asks as many peers more as are asked, if something that others show does not come.
@@ -110,12 +112,16 @@ impl Log {
             (*it != self.author, self.views[*it].asked_at, links.each[*it].round_trip)
         });
         more.truncate(asked.len());
-        self.asks.goal = more.iter().filter_map(|it| self.top_of(*it)).min().unwrap_or(least);
-        self.asks.chosen = now;
+        let goal = more.iter().filter_map(|it| self.top_of(*it)).min().unwrap_or(least);
+        let is_late = silent > now;
+        self.asks.goal = if is_late { goal } else { 0 };
+        (self.asks.chosen, self.asks.last) = (now, None);
         for it in more {
             (self.views[it].is_asked, self.views[it].asked_at) = (true, now);
         }
+        let late = self.asks.late.filter(|_| !is_late);
         self.excuse(now);
+        self.asks.late = late;
         self.wake = self.wake.min(now + self.bounds.idle);
     }
 
