@@ -4,7 +4,7 @@ use crate::identity::{Identity, PeerId};
 use crate::message::MAX_MESSAGE;
 use crate::output::{Form, MAX_WAITING};
 use crate::{invalid, of};
-use broadcast_relay::gossip::{Bounds, OVERHEAD};
+use broadcast_relay::gossip::{Bounds, CHARGE};
 use serde::{Deserialize, Deserializer, de::Error};
 use std::fs;
 use std::io;
@@ -82,7 +82,7 @@ impl Limits {
             list,
             behind: list / 2,
             room: (256 << 10).min(burst / 8).min(list / 16),
-            largest: MAX_MESSAGE as u64 + OVERHEAD,
+            largest: MAX_MESSAGE as u64 + CHARGE,
             rate,
             burst,
             least: rate / self.author_messages_per_second,
@@ -158,13 +158,13 @@ impl Config {
 
     /// A bound on the resident memory, in bytes, for as long as no peer is added.
     ///
-    /// Of each author there are a list, and lines that wait for the output; of each peer what is read and written at once, what TLS keeps,
-    /// and what is known of it for each author. A start reads one file of a journal at a time.
+    /// Of each author there are a list, what log and journal know of each message, and lines that wait for the output; of each peer
+    /// what is read and written at once, what TLS keeps, and what is known of it for each author. A start reads one journal at a time.
     pub fn memory_bound(&self) -> u64 {
         let (peers, limits) = (self.peers.len() as u64, &self.limits);
-        let author = 2 * limits.bytes_per_peer + 2 * MAX_WAITING as u64;
-        // Two coverages, and a place in a tree for each message in flight.
-        let view = 4_096 + 48 * limits.bounds().room / OVERHEAD;
+        let author = 3 * limits.bytes_per_peer + 2 * MAX_WAITING as u64;
+        // A report, and what is known of each message that is in flight, or that came since the last report.
+        let view = 4_096 + 24 * (limits.bounds().room + limits.bytes_per_peer / 8) / CHARGE;
         let peer = (1 << 20) + (peers + 1) * view;
         let handshakes = limits.handshakes * (96 << 10);
         (48 << 20) + (peers + 1) * author + 3 * limits.bytes_per_peer + peers * peer + handshakes

@@ -26,6 +26,14 @@ const LOOK: Duration = Duration::from_secs(1);
 /// The longest round trip, in microseconds, that a peer has that dials, unless this relay dials a peer that is farther away.
 const ACCEPTED: Time = 50_000;
 
+/// By how many nanoseconds a stamp may be later than this relay's clock. A later one waits at its author.
+const AHEAD: u64 = 24 * 3_600 * 1_000_000_000;
+
+/// Nanoseconds since 1970.
+fn clock() -> u64 {
+    SystemTime::now().duration_since(UNIX_EPOCH).unwrap_or_default().as_nanos() as u64
+}
+
 pub struct Hub {
     pub identity: Identity,
     pub metrics: Metrics,
@@ -88,7 +96,7 @@ impl Gossip {
         let peer = Arc::new(Peer { config: config.clone(), node, author });
         let past = past.map(|it| {
             let messages = it.messages.iter().map(|it| item(node, it)).collect();
-            Past { covered: it.covered, messages }
+            Past { floor: it.floor, messages }
         });
         if node == self.peers.len() {
             self.machine.add(now, past.unwrap_or_default());
@@ -389,7 +397,11 @@ impl Hub {
         let (node, is_own, mut cost) = (author.node, author.node == self.own.node, 0);
         let mut known = author.author.lock();
         let it = item(node, &message);
-        let is_wanted = self.gossip.lock().machine.wants(now(), peer.node, &it);
+        let is_wanted = {
+            let machine = &mut self.gossip.lock().machine;
+            machine.set_latest(clock() + AHEAD);
+            machine.wants(now(), peer.node, &it)
+        };
         if is_wanted {
             cost = known.check(&message).map_err(invalid)? * self.signature_cost;
             // An own message that comes back is not journaled: the journal has those after which the next one comes.
@@ -433,8 +445,7 @@ impl Hub {
     /// Signs texts as one batch, journals and publishes them. After an error nothing is published.
     pub fn publish(&self, texts: &[Vec<u8>]) -> io::Result<()> {
         let mut own = self.own.author.lock();
-        let clock = SystemTime::now().duration_since(UNIX_EPOCH).unwrap_or_default();
-        let next = self.gossip.lock().machine.next_own(clock.as_nanos() as u64);
+        let next = self.gossip.lock().machine.next_own(clock());
         let messages = Signed::batch(&self.identity, next, texts)?;
         if let Some(journal) = &mut own.journal {
             self.note_written(journal.append(&messages))?;
@@ -459,7 +470,6 @@ impl Hub {
             let (machine, name, node) = (&gossip.machine, &*peer.config.name, peer.node);
             let log = machine.log(node);
             self.metrics.held.with_label_values(&[name]).set(log.is_held.into());
-            self.metrics.given_up.with_label_values(&[name]).set(log.given_up as i64);
             raise(&self.metrics.lost, name, log.lost);
             if node != self.own.node {
                 let is_stalled = machine.is_stalled(now, node);

@@ -11,7 +11,7 @@ use crate::output::Output;
 use crate::setup;
 use crate::strangers::Strangers;
 use crate::tls::Tls;
-use broadcast_relay::gossip::Coverage;
+use broadcast_relay::gossip;
 use std::fs::File;
 use std::future::pending;
 use std::io::{self, IsTerminal, stdin};
@@ -34,7 +34,7 @@ const POLL: Duration = Duration::from_millis(1);
 
 /// Runs the relay of a configuration until SIGTERM or SIGINT.
 pub fn run(file: &Path) -> io::Result<()> {
-    Coverage::check().map_err(io::Error::other)?;
+    gossip::check().map_err(io::Error::other)?;
     let mut config = Config::load(file)?;
     let metrics = Metrics::new().map_err(io::Error::other)?;
     let log = Output::start_log(&metrics.log_dropped)?;

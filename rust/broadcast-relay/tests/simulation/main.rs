@@ -1,14 +1,14 @@
 //! Relays in a simulated world: faults of the network and hostile relays, thousands of runs in `scripts/relays soak`.
 
 mod hostile;
+mod model;
 mod scenes;
 mod verdict;
 mod world;
 
-use broadcast_relay::gossip::{
-    Bounds, Coverage, Frame, Machine, Message, Past, Report, SECOND, Taken,
-};
-use scenes::CLASSES;
+use broadcast_relay::gossip::{Bounds, Frame, Machine, Message, Past, Report, SECOND, Taken};
+use model::Model;
+use scenes::{CLASSES, HONEST};
 use verdict::Outcome;
 use world::{Node, Random, World, machine};
 
@@ -16,7 +16,7 @@ fn check(class: &str, world: World) -> Outcome {
     let outcome = world.run(true);
     let Outcome { wrong, what, copies, deliveries, .. } = &outcome;
     assert!(wrong.is_empty(), "{class}, {what}: {} of {}", wrong[0], wrong.len());
-    // Each message comes once, but for what is in flight when feeders change.
+    // Each message comes once, but for what is in flight when others are asked.
     let most = if ["crash", "mixed", "long"].contains(&class) { 1.6 } else { 1.25 };
     let is_few = *copies as f64 <= most * *deliveries as f64;
     assert!(*deliveries < 5_000 || is_few, "{class}, {what}: {copies} copies of {deliveries}");
@@ -43,27 +43,66 @@ fn in_each_class_of_runs_all_arrives_once() {
     }
 }
 
-/// How much later than in the same runs without hostile relays it comes what slow authors say.
-#[test]
-#[ignore = "it takes long, and prints numbers"]
-fn twins() {
-    println!("class: ms of slow authors p50 p99 p99.9 max, without hostile relays");
-    for class in CLASSES {
-        let (mut with, mut without) = (Outcome::default(), Outcome::default());
-        for world in small_runs(class, 4 * SECOND, false).take(4) {
-            with.slow_ages.extend(check(class, world).slow_ages);
+/// A run with hostile relays and its twin without them: how much later what slow honest authors say comes beside them, a hop, and the most
+/// that it may be later.
+fn late(class: &str, place: usize) -> (u64, u64) {
+    let new = || small_runs(class, 4 * SECOND, false).nth(place).unwrap();
+    let (world, mut twin) = (new(), new());
+    let hops: Vec<_> = (0..world.nodes.len()).map(|it| world.hops(it)).collect();
+    let peers = world.near.iter().map(Vec::len).max().unwrap_or(1) as f64;
+    // A wait is half a second and two round trips, which take at most 0.4 s here.
+    let most = (0.9e6 * (1.0 + peers.log2())) as u64;
+    let honest: Vec<bool> = world.nodes.iter().map(Node::is_honest).collect();
+    twin.nodes.iter_mut().filter(|it| !it.is_honest()).for_each(Node::leave);
+    let (with, without) = (check(class, world).came, check(class, twin).came);
+    let far = |node: usize, author: usize| hops[author].get(&node).copied().unwrap_or(1).max(1);
+    let late = with
+        .iter()
+        .filter(|((_, author, _), _)| honest[*author])
+        .filter_map(|(id, at)| Some(at.saturating_sub(*without.get(id)?) / far(id.0, id.1)));
+    (late.max().unwrap_or(0), most)
+}
+
+/// The property of the README: whatever hostile peers do, what is on a list comes, and not later than by a wait for each doubling of
+/// those that are asked. What fast authors say is held back for who stands still, so it is not looked at.
+fn judge_twins(places: std::ops::Range<usize>) {
+    for class in &CLASSES[HONEST..] {
+        // Whose faults differ from those of its twin, or who leaves few honest relays.
+        if ["mixed", "swarm"].contains(class) {
+            continue;
         }
-        for mut world in small_runs(class, 4 * SECOND, false).take(4) {
-            world.nodes.iter_mut().filter(|it| !it.is_honest()).for_each(Node::leave);
-            without.slow_ages.extend(check(class, world).slow_ages);
+        for place in places.clone() {
+            let (late, most) = late(class, place);
+            assert!(late <= most, "{class}, run {place}: {late} of {most} us");
         }
-        let numbers = [with, without].map(|mut it| {
-            it.slow_ages.sort_unstable();
-            let last = it.slow_ages.len().saturating_sub(1);
-            [500, 990, 999, 1_000].map(|part| it.slow_ages.get(last * part / 1_000).copied())
-        });
-        println!("{class}: {numbers:?}");
     }
+}
+
+#[test]
+fn beside_hostile_relays_all_comes_and_in_time() {
+    judge_twins(0..1);
+}
+
+/// `SOAK_SEEDS` as below, of which only the count is looked at.
+#[test]
+#[ignore = "it takes long"]
+fn many_twins() {
+    judge_twins(0..soak_seeds().1 as usize);
+}
+
+/// What the library answers in a simulated run is compared with its definition: lists, floors, reports, lags, what is sent next.
+#[test]
+fn the_library_answers_by_its_definition() {
+    let mut compared = 0;
+    for class in ["calm", "crash", "big", "part", "push", "pact"] {
+        let mut world = small_runs(class, SECOND, false).next().unwrap();
+        let budget = world.bounds.list;
+        for node in world.nodes.iter_mut().filter(|it| it.is_honest()) {
+            node.model = Some(Model::new(budget));
+        }
+        compared += check(class, world).compared;
+    }
+    assert!(compared > 5_000, "{compared}");
 }
 
 /// Gaps are what the protocol stood still in before its rules were what they are.
@@ -97,13 +136,17 @@ fn the_default_bounds_hold_too() {
     }
 }
 
+fn soak_seeds() -> (u64, u64) {
+    let seeds = std::env::var("SOAK_SEEDS").unwrap_or_else(|_| "1000,50".into());
+    let (first, count) = seeds.split_once(',').expect("FIRST,COUNT");
+    (first.parse().unwrap(), count.parse().unwrap())
+}
+
 /// `SOAK_SEEDS=FIRST,COUNT`: so many seeds of each class.
 #[test]
 #[ignore = "it takes hours"]
 fn thousands_of_seeds() {
-    let seeds = std::env::var("SOAK_SEEDS").unwrap_or_else(|_| "1000,50".into());
-    let (first, count) = seeds.split_once(',').expect("FIRST,COUNT");
-    let (first, count): (u64, u64) = (first.parse().unwrap(), count.parse().unwrap());
+    let (first, count) = soak_seeds();
     let (mut failed, mut total) = (0, 0);
     println!(
         "class, bounds: seeds, deliveries, copies, bytes of reports, ms of slow authors p50 p99, lost"
@@ -156,7 +199,7 @@ fn what_is_left_out_is_reported() {
     assert_eq!(take(1, &mut relay, 1, message), Taken::LeftOut);
     (2..100).for_each(|it| relay.timeout(it * 10_000));
     let Some(Frame::Report(2, report)) = relay.frame(SECOND, 1) else { panic!("no report") };
-    assert!(report.done == 1 && !report.coverage.covers(9));
+    assert!(report.done == 1 && !report.coverage.has(9));
 }
 
 /// A peer replays what an author said long ago to a relay that has forgotten it.
@@ -209,6 +252,11 @@ fn meet(now: u64, relays: &mut [&mut Machine]) {
     }
 }
 
+/// The stamps that a relay lists of an author.
+fn stamps(relay: &Machine, author: usize) -> Vec<u64> {
+    relay.log(author).kept.iter().map(|it| it.stamp).collect()
+}
+
 fn publish(now: u64, clock: u64, machine: &mut Machine) -> (u64, u64) {
     let (prev, stamp) = machine.next_own(clock);
     machine.publish(now, prev, stamp, vec![0; 10].into());
@@ -225,7 +273,7 @@ fn an_author_that_lost_its_journal_closes_nothing() {
         publish(it, 1_000 + it, &mut one);
     }
     meet(10, &mut [&mut one, &mut other]);
-    assert!(other.log(0).covered.runs().eq([(1_000, 1_005)]));
+    assert!(stamps(&other, 0).into_iter().eq(1_001..=1_005));
     other.disconnect(20, 0);
     let mut one = machine(&bounds, 0, 2, None);
     one.connect(30, 1, 100);
@@ -233,10 +281,10 @@ fn an_author_that_lost_its_journal_closes_nothing() {
     // Its clock went back.
     assert_eq!(publish(30, 900, &mut one), (899, 900));
     meet(40, &mut [&mut one, &mut other]);
-    assert!(one.log(0).covered.runs().eq([(899, 900), (1_000, 1_005)]));
+    assert_eq!(stamps(&one, 0), [900, 1_001, 1_002, 1_003, 1_004, 1_005]);
     assert_eq!(publish(50, 901, &mut one), (1_005, 1_006));
     meet(60, &mut [&mut one, &mut other]);
-    assert!(other.log(0).covered.runs().eq([(899, 900), (1_000, 1_006)]));
+    assert_eq!(stamps(&other, 0), [900, 1_001, 1_002, 1_003, 1_004, 1_005, 1_006]);
 }
 
 /// A message of 10 bytes of author 0.
@@ -280,11 +328,10 @@ fn an_author_uses_no_stamp_that_its_peers_have() {
 fn who_claims_an_authors_future_does_not_stop_it() {
     let mut relay = machine(&Bounds::default(), 0, 3, None);
     (1..3).for_each(|it| relay.connect(0, it, 100));
-    let coverage = Coverage::up_to(u64::MAX);
-    relay.report(0, 1, 0, Report { coverage, ..Report::default() });
-    relay.report(0, 1, 1, Report::default());
-    relay.report(0, 2, 0, Report::default());
-    relay.report(0, 2, 2, Report::default());
+    relay.report(0, 1, 0, Report::up_to(u64::MAX));
+    relay.report(0, 1, 1, Report::up_to(0));
+    relay.report(0, 2, 0, Report::up_to(0));
+    relay.report(0, 2, 2, Report::up_to(0));
     assert!(!relay.may_publish());
     (0..601).for_each(|it| relay.timeout(it * SECOND / 100));
     assert!(relay.may_publish());
@@ -307,13 +354,8 @@ fn nothing_is_published_for_nobody() {
     }
     assert_eq!(count, (2 << 20) / 100_128 + 1);
     relay.connect(7 * SECOND, 1, 100);
-    relay.report(
-        7 * SECOND,
-        1,
-        0,
-        Report { coverage: Coverage::up_to(count), ..Report::default() },
-    );
-    relay.report(7 * SECOND, 1, 1, Report::default());
+    relay.report(7 * SECOND, 1, 0, Report::up_to(count));
+    relay.report(7 * SECOND, 1, 1, Report::up_to(0));
     assert!(relay.may_publish());
 }
 
@@ -337,42 +379,52 @@ fn authors_that_are_away_cost_nothing() {
     assert!(steps < 20, "{steps}");
 }
 
-#[test]
-fn a_gap_that_nobody_fills_is_given_up_late_and_counted() {
-    let mut relay = machine(&Bounds::default(), 0, 2, None);
-    relay.connect(0, 1, 100);
-    let message = |it| Message { author: 1, stamp: 2 * it, prev: 2 * it - 1, bytes: vec![].into() };
-    // A floor, and 63 intervals behind it.
-    for it in 1..=70 {
-        let taken = if it <= 63 { Taken::New } else { Taken::LeftOut };
-        assert_eq!(take(it, &mut relay, 1, message(it)), taken);
-    }
-    // The author has reported, and can send the 60th and what is behind it.
-    let coverage = Coverage::up_to(140);
-    relay.report(SECOND, 1, 1, Report { coverage, since: 119, ..Report::default() });
-    relay.timeout(3 * SECOND - 1);
-    assert_eq!(take(3 * SECOND - 1, &mut relay, 1, message(64)), Taken::LeftOut);
-    relay.timeout(3 * SECOND);
-    // What is in front of the first was before this relay's time.
-    assert_eq!((relay.log(1).lost, relay.log(1).given_up), (59, 0));
-    (64..=70).for_each(|it| assert_eq!(take(3 * SECOND, &mut relay, 1, message(it)), Taken::New));
-    assert_eq!((relay.log(1).lost, relay.log(1).given_up), (59, 7));
+/// A message of author 1 or 2 with a gap before it.
+fn apart(author: usize, it: u64) -> Message {
+    Message { author, stamp: 2 * it, prev: 2 * it - 1, bytes: vec![].into() }
 }
 
-/// The author is away when a peer brings what has too many gaps, and is given a minute to come back and fill them.
 #[test]
-fn a_gap_that_its_author_may_fill_is_kept_for_a_minute() {
+fn a_log_of_many_gaps_takes_all_that_comes_and_counts_what_is_lost() {
+    let mut relay = machine(&Bounds::default(), 0, 2, None);
+    relay.connect(0, 1, 100);
+    (1..=100).for_each(|it| assert_eq!(take(it, &mut relay, 1, apart(1, it)), Taken::New));
+    // The author's list begins behind what it has at 119.
+    relay.report(SECOND, 1, 1, Report { since: 119, ..Report::up_to(200) });
+    relay.timeout(3 * SECOND - 1);
+    assert_eq!(relay.log(1).lost, 0);
+    relay.timeout(3 * SECOND);
+    // 59 gaps, of which the author can fill none any more.
+    assert_eq!((relay.log(1).lost, relay.log(1).kept.len()), (59, 100));
+}
+
+/// The author is away when a peer shows that it cannot send something, and has a minute to come back with it.
+#[test]
+fn a_gap_that_its_author_may_fill_is_lost_after_a_minute() {
     let mut relay = machine(&Bounds::default(), 0, 3, None);
     relay.connect(0, 1, 100);
-    let coverage = Coverage::up_to(200);
-    relay.report(0, 1, 2, Report { coverage, since: 199, ..Report::default() });
+    relay.report(0, 1, 2, Report::up_to(200));
     while relay.frame(0, 1).is_some() {}
-    let message = |it| Message { author: 2, stamp: 2 * it, prev: 2 * it - 1, bytes: vec![].into() };
-    (1..=63).for_each(|it| assert_eq!(take(it, &mut relay, 1, message(it)), Taken::New));
-    for (now, taken) in [(59 * SECOND, Taken::LeftOut), (61 * SECOND, Taken::New)] {
+    (1..=63).for_each(|it| assert_eq!(take(it, &mut relay, 1, apart(2, it)), Taken::New));
+    relay.report(100, 1, 2, Report { since: 199, ..Report::up_to(200) });
+    for (now, lost) in [(59 * SECOND, 0), (61 * SECOND, 62)] {
         relay.timeout(now);
-        assert_eq!(take(now, &mut relay, 1, message(64)), taken);
+        assert_eq!(relay.log(2).lost, lost);
     }
+}
+
+/// Its author's messages until then would leave for it, and all that come after it.
+#[test]
+fn what_is_too_far_in_the_future_is_left_out() {
+    let mut relay = machine(&Bounds::default(), 0, 2, None);
+    relay.connect(0, 1, 100);
+    relay.set_latest(1_000);
+    let message = |stamp| Message { author: 1, stamp, prev: stamp - 1, bytes: vec![].into() };
+    for (stamp, taken) in [(1_000, Taken::New), (1_001, Taken::LeftOut), (999, Taken::New)] {
+        assert_eq!(take(0, &mut relay, 1, message(stamp)), taken);
+    }
+    relay.set_latest(1_001);
+    assert_eq!(take(0, &mut relay, 1, message(1_001)), Taken::New);
 }
 
 /// A peer brings each second message of an author, over which gaps were once closed by force.
@@ -386,9 +438,8 @@ fn who_brings_a_part_in_any_order_keeps_nothing_away() {
         let mut relay = machine(&Bounds::default(), 0, 3, None);
         relay.connect(0, 2, 100);
         if has_room {
-            // It shows all, and becomes the feeder.
-            let coverage = Coverage::up_to(ALL);
-            relay.report(0, 2, 1, Report { coverage, ..Report::default() });
+            // It shows all, and is asked.
+            relay.report(0, 2, 1, Report::up_to(ALL));
             while relay.frame(0, 2).is_some() {}
         }
         for stamp in (2..=ALL).step_by(2) {
@@ -408,8 +459,7 @@ fn who_brings_a_part_in_any_order_keeps_nothing_away() {
             relay.timeout(now);
             author.timeout(now);
         }
-        assert!(relay.log(1).covered.runs().eq([(0, ALL)]), "room {has_room}");
-        assert_eq!((relay.log(1).given_up, relay.log(1).list.iter().count()), (0, ALL as usize));
+        assert!(stamps(&relay, 1).into_iter().eq(1..=ALL), "room {has_room}");
     }
 }
 
@@ -434,7 +484,7 @@ fn who_lists_an_author_late_gets_what_its_peers_have() {
     meet(0, &mut [&mut one, &mut other]);
     one.add(SECOND, Past::default());
     meet(SECOND, &mut [&mut one, &mut other]);
-    assert!(one.log(2).covered.runs().eq([(0, 19)]));
+    assert!(stamps(&one, 2).into_iter().eq(1..=19));
 }
 
 /// The bounds by default, where no author is too fast.
@@ -445,7 +495,7 @@ fn fast() -> Bounds {
 /// Gives a relay 1 MB of author 2.
 fn fill(now: u64, relay: &mut Machine) {
     for _ in 0..10 {
-        let prev = relay.log(2).covered.top();
+        let prev = relay.log(2).kept.top();
         let message = Message { author: 2, stamp: prev + 1, prev, bytes: vec![0; 100_000].into() };
         assert_eq!(take(now, relay, 2, message), Taken::New);
     }
@@ -462,7 +512,7 @@ fn who_does_not_list_an_author_is_not_waited_for() {
     assert!(authors.eq([1, 2, 0]), "the own log is not reported last");
     (0..3).for_each(|it| fill(it, &mut relay));
     assert!(relay.log(2).is_held);
-    relay.report(3, 1, 1, Report::default());
+    relay.report(3, 1, 1, Report::up_to(0));
     assert!(!relay.log(2).is_held);
 }
 
@@ -472,7 +522,7 @@ fn who_does_not_list_an_author_is_not_waited_for() {
 fn who_loses_its_connection_is_waited_for() {
     let mut relay = machine(&fast(), 0, 3, None);
     relay.connect(0, 1, 100);
-    relay.report(0, 1, 2, Report::default());
+    relay.report(0, 1, 2, Report::up_to(0));
     relay.disconnect(1, 1);
     (1..4).for_each(|it| fill(it, &mut relay));
     assert!(relay.log(2).is_held && relay.left_behind(1) == 0);
@@ -517,10 +567,9 @@ fn who_reports_all_and_nothing_by_turns_is_waited_for_once() {
                     relay.disconnect(now, 1);
                     relay.connect(now, 1, 100);
                 }
-                let top = relay.log(2).covered.top();
+                let top = relay.log(2).kept.top();
                 let top = if now % SECOND == 0 { 0 } else { top };
-                let coverage = Coverage::up_to(top);
-                relay.report(now, 1, 2, Report { coverage, ..Report::default() });
+                relay.report(now, 1, 2, Report::up_to(top));
             }
             relay.timeout(now);
             match relay.log(2).is_held {
@@ -532,43 +581,104 @@ fn who_reports_all_and_nothing_by_turns_is_waited_for_once() {
     }
 }
 
-/// Who claims a message and takes that back, or ends its connection, once it is to bring the message, is barred like who keeps silent.
+/// Who claims a message and takes that back, or ends its connection, once it is asked for it, keeps nothing away that others bring.
 #[test]
-fn who_takes_a_claim_back_does_not_feed_again_and_again() {
+fn who_takes_a_claim_back_keeps_nothing_away() {
     for ends in [false, true] {
         let mut relay = machine(&Bounds::default(), 0, 4, None);
         relay.connect(0, 1, 100);
         relay.connect(0, 2, 100);
-        let report = |upto| Report { coverage: Coverage::up_to(upto), ..Report::default() };
-        let (mut turns, mut had) = (0, 0);
+        let (mut had, mut latest) = (0, 0);
         for now in (1..1_000).map(|it| it * 10_000) {
-            // The honest peer brings what it has, if it is to; the other claims more, and never brings anything.
+            // The honest peer brings what it has, if it is asked; the other claims more, and never brings anything.
             let stamp = now / 10_000;
-            relay.report(now, 1, 3, report(stamp));
-            relay.report(now, 2, 3, report(stamp + 100));
-            if relay.log(3).feeder == Some(2) {
-                turns += 1;
+            relay.report(now, 1, 3, Report::up_to(stamp));
+            relay.report(now, 2, 3, Report::up_to(stamp + 100));
+            if relay.log(3).is_asked(2) {
                 match ends {
                     true => {
                         relay.disconnect(now, 2);
                         relay.connect(now, 2, 100);
                     }
-                    false => relay.report(now, 2, 3, report(0)),
+                    false => relay.report(now, 2, 3, Report::up_to(0)),
                 }
             }
             (1..3).for_each(|it| while relay.frame(now, it).is_some() {});
-            if relay.log(3).feeder == Some(1) {
+            if relay.log(3).is_asked(1) {
                 for stamp in had + 1..=stamp {
                     let bytes = vec![0; 90].into();
                     take(now, &mut relay, 1, Message { author: 3, stamp, prev: stamp - 1, bytes });
                 }
                 had = stamp;
             }
+            latest = latest.max(stamp - had);
             relay.timeout(now);
         }
-        // Ten seconds: it is barred for 1, 2, 4 s.
-        assert!(had > 900 && turns < 60, "ends {ends}: {had} {turns}");
+        // It is never waited for beyond what a peer has that was asked before.
+        assert!(had > 990 && latest <= 5, "ends {ends}: {had} {latest}");
     }
+}
+
+/// Gives a relay those messages of author 4 that it lacks and a peer brings.
+fn bring(now: u64, relay: &mut Machine, peer: usize, stamps: impl Iterator<Item = u64>) {
+    for stamp in stamps {
+        let message = Message { author: 4, stamp, prev: stamp - 1, bytes: vec![0; 900].into() };
+        if relay.log(4).is_asked(peer) && !relay.log(4).kept.has(stamp) {
+            assert_eq!(take(now, relay, peer, message), Taken::New);
+        }
+    }
+}
+
+/// Relay 0 with three peers, of which the first is asked first, and an author that is away.
+fn with_three_peers() -> Machine {
+    let mut relay = machine(&Bounds::default(), 0, 5, None);
+    (1..4).for_each(|it| relay.connect(0, it, 100 * it as u64));
+    relay
+}
+
+/// Each message that it brings is the one that is lacking, and in time for that. It once fed others for ever.
+#[test]
+fn who_brings_all_but_slowly_is_not_asked_alone() {
+    let mut relay = with_three_peers();
+    let mut came = 0;
+    for now in (1..200).map(|it| it * 10_000) {
+        relay.report(now, 1, 4, Report::up_to(400));
+        relay.report(now, 2, 4, Report::up_to(400));
+        (1..4).for_each(|it| while relay.frame(now, it).is_some() {});
+        let top = relay.log(4).kept.top();
+        if now % 20_000 == 0 {
+            bring(now, &mut relay, 1, top + 1..=top + 1);
+        }
+        bring(now, &mut relay, 2, 1..=400);
+        relay.timeout(now);
+        came += if relay.log(4).kept.len() < 400 { 10_000 } else { 0 };
+    }
+    assert!(came < SECOND, "{came}");
+    // Who brought the last of it is asked from now on.
+    assert!(relay.log(4).is_asked(2) && !relay.log(4).is_asked(1));
+}
+
+/// Two peers that agreed upon what they do not bring.
+#[test]
+fn who_brings_all_but_one_keeps_nothing_away() {
+    let mut relay = with_three_peers();
+    let mut late = Vec::new();
+    for stamp in 1..600 {
+        let now = stamp * 10_000;
+        (1..4).for_each(|it| relay.report(now, it, 4, Report::up_to(stamp)));
+        (1..4).for_each(|it| while relay.frame(now, it).is_some() {});
+        for peer in 1..3 {
+            bring(now, &mut relay, peer, (1..=stamp).filter(|it| it % 50 > 0));
+        }
+        bring(now, &mut relay, 3, 1..=stamp);
+        relay.timeout(now);
+        let kept = &relay.log(4).kept;
+        late.extend((50..=stamp).step_by(50).filter(|it| !kept.has(*it)).map(|it| stamp - it));
+    }
+    // The first is late, by half a second for each peer more. Who brought it is asked for the others.
+    let kept = &relay.log(4).kept;
+    assert!((1..600).all(|it| kept.has(it)), "{:?}", stamps(&relay, 4));
+    assert!(late.iter().max() <= Some(&102) && late.len() < 160, "{late:?}");
 }
 
 /// Each lacks more of the other's list than it waits for, and both are held: a gap is filled all the same, at once.
@@ -593,8 +703,8 @@ fn relays_that_lack_each_others_messages_do_not_wait_for_each_other() {
         other.timeout(now);
         meet(now, &mut [&mut one, &mut other]);
     }
-    assert!(one.log(2).covered.runs().eq([(0, 60)]));
-    assert!(other.log(2).covered.runs().eq([(0, 60)]));
+    assert!(stamps(&one, 2).into_iter().eq(1..=60));
+    assert!(stamps(&other, 2).into_iter().eq(1..=60));
 }
 
 /// Of who ignores its room, what is above its author's rate is left out.
@@ -633,7 +743,7 @@ fn some_of(random: &mut Random, author: usize) -> Vec<Past> {
         let message = Message { author, stamp, prev: stamp - 1, bytes: vec![0; 900].into() };
         match random.below(4) {
             0 => {}
-            1 => drop(log.covered.cover(stamp - 1, stamp)),
+            1 => log.floor = stamp,
             _ => log.messages.push(message),
         }
     }
@@ -660,7 +770,8 @@ fn no_relays_wait_in_a_circle() {
             meet(now, &mut relays.iter_mut().collect::<Vec<_>>());
         }
         for (one, other) in (0..count).flat_map(|one| (0..count).map(move |it| (one, it))) {
-            let lacks = relays[one].log(count).list.lacking(&relays[other].log(count).covered);
+            let kept = &relays[other].log(count).kept;
+            let lacks = stamps(&relays[one], count).into_iter().filter(|it| !kept.has(*it)).count();
             assert!(lacks == 0 || !near(one, other), "{seed}: {other} of {count} lacks {lacks}");
         }
     }

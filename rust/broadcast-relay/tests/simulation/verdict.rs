@@ -2,6 +2,7 @@
 
 use crate::world::{FULL, World};
 use broadcast_relay::gossip::SECOND;
+use std::collections::HashMap;
 
 #[derive(Default)]
 pub struct Outcome {
@@ -17,6 +18,9 @@ pub struct Outcome {
     /// How long deliveries took, in simulated milliseconds, of slow authors and of fast ones.
     pub slow_ages: Vec<u32>,
     pub full_ages: Vec<u32>,
+    /// When what slow authors said came, by relay, author and stamp; and how many answers of the library were compared.
+    pub came: HashMap<(usize, usize, u64), u64>,
+    pub compared: u64,
 }
 
 impl Outcome {
@@ -33,6 +37,29 @@ impl World {
         wrong.sort();
         self.outcome.wrong.extend(wrong);
         self.outcome.lost = lost;
+        for (number, node) in self.nodes.iter().enumerate().filter(|it| it.1.is_honest()) {
+            self.outcome.compared += node.model.as_ref().map_or(0, |it| it.compared);
+            let is_slow = |author: usize| self.nodes[author].rate != FULL;
+            let slow = node.seen.iter().filter(|it| is_slow(it.0.0));
+            self.outcome
+                .came
+                .extend(slow.map(|((author, stamp), at)| ((number, *author, *stamp), *at)));
+        }
+    }
+
+    /// How many hops honest relays are apart, over honest ones.
+    pub fn hops(&self, from: usize) -> HashMap<usize, u64> {
+        let mut hops = HashMap::from([(from, 0)]);
+        let mut next = std::collections::VecDeque::from([from]);
+        while let Some(node) = next.pop_front() {
+            for &peer in self.near[node].iter().filter(|it| self.nodes[**it].is_honest()) {
+                if !hops.contains_key(&peer) {
+                    hops.insert(peer, hops[&node] + 1);
+                    next.push_back(peer);
+                }
+            }
+        }
+        hops
     }
 
     /// What is wrong now, and how many deliveries are lacking.
@@ -64,7 +91,7 @@ impl World {
             {
                 let seen = &self.nodes[peer].seen;
                 let lacks = |stamp: u64| !seen.contains_key(&(author, stamp));
-                let listed = machine.log(author).list.iter();
+                let listed = machine.log(author).kept.iter();
                 wrong.extend(listed.filter(|it| lacks(it.stamp)).map(|it| {
                     format!("{author}/{} is on the list of {node}, not at {peer}", it.stamp)
                 }));
@@ -77,7 +104,7 @@ impl World {
         let machine = |it: usize| self.nodes[it].machine.as_ref().unwrap();
         let log = machine(lacking).log(author);
         let mut near = self.near[lacking].iter().filter(|it| self.nodes[**it].is_honest());
-        log.lost > 0 || log.given_up > 0 || near.any(|it| machine(*it).left_behind(lacking) > 0)
+        log.lost > 0 || near.any(|it| machine(*it).left_behind(lacking) > 0)
     }
 
     /// All messages of slow honest authors are everywhere, and those of fast ones if nothing broke.
