@@ -1,10 +1,10 @@
 //! The configuration, a TOML file.
 
+use crate::gossip::{Bounds, OVERHEAD};
 use crate::identity::{Identity, PeerId};
 use crate::message::MAX_MESSAGE;
 use crate::output::{Form, MAX_WAITING};
 use crate::{invalid, of};
-use broadcast_relay::gossip::{Bounds, OVERHEAD};
 use serde::{Deserialize, Deserializer, de::Error};
 use std::fs;
 use std::io;
@@ -36,10 +36,13 @@ pub struct Config {
     pub peers: Vec<PeerConfig>,
 }
 
+/// A peer, as a configuration names it.
 #[derive(Clone, Debug, Deserialize, PartialEq)]
 #[serde(deny_unknown_fields)]
 pub struct PeerConfig {
+    /// A word of its own in the output.
     pub name: String,
+    /// The SHA-256 of its public key, in a file as 64 hexadecimal digits.
     #[serde(deserialize_with = "key")]
     pub key: PeerId,
     /// Where it listens, as a host and a port. Without it the peer has to dial.
@@ -74,6 +77,11 @@ impl Default for Limits {
 }
 
 impl Limits {
+    /// What the check of a signature is charged to its author, in bytes.
+    pub fn signature_cost(&self) -> u64 {
+        self.author_bytes_per_second / self.author_signatures_per_second
+    }
+
     /// The bounds of the protocol that follow from these limits.
     pub fn bounds(&self) -> Bounds {
         let (list, rate) = (self.bytes_per_peer, self.author_bytes_per_second);

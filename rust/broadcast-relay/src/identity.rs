@@ -17,9 +17,13 @@ use std::path::Path;
 /// The SHA-256 of a peer's public key.
 pub type PeerId = [u8; 32];
 
+/// The key of a relay, whose private part `{:?}` does not print.
+#[derive(Debug)]
 pub struct Identity {
-    pub key: PKey<Private>,
+    pub(crate) key: PKey<Private>,
+    /// Its public part.
     pub public: [u8; 32],
+    /// What peers know it by.
     pub id: PeerId,
 }
 
@@ -35,10 +39,12 @@ pub fn keygen(file: &Path) -> io::Result<Identity> {
 }
 
 impl Identity {
+    /// Makes a key.
     pub fn generate() -> io::Result<Identity> {
         Identity::of(PKey::generate_ed25519()?)
     }
 
+    /// Reads a key from a file.
     pub fn load(file: &Path) -> io::Result<Identity> {
         let load = || {
             if metadata(file)?.permissions().mode() & 0o077 != 0 {
@@ -55,7 +61,7 @@ impl Identity {
     }
 
     /// A certificate of the key, signed by itself, for all times.
-    pub fn certificate(&self) -> Result<X509, ErrorStack> {
+    pub(crate) fn certificate(&self) -> Result<X509, ErrorStack> {
         let mut builder = X509Builder::new()?;
         let [from, to] = ["20200101000000Z", "99991231235959Z"].map(Asn1Time::from_str);
         builder.set_not_before(from?.as_ref())?;
@@ -65,7 +71,7 @@ impl Identity {
         Ok(builder.build())
     }
 
-    pub fn sign(&self, bytes: &[u8]) -> Result<Vec<u8>, ErrorStack> {
+    pub(crate) fn sign(&self, bytes: &[u8]) -> Result<Vec<u8>, ErrorStack> {
         Signer::new_without_digest(&self.key)?.sign_oneshot_to_vec(bytes)
     }
 }
@@ -75,12 +81,13 @@ fn public(key: &PKeyRef<impl HasPublic>) -> Option<[u8; 32]> {
 }
 
 /// The id of who proves to have the key of the certificate.
-pub fn id_of(certificate: &X509Ref) -> Option<PeerId> {
+pub(crate) fn id_of(certificate: &X509Ref) -> Option<PeerId> {
     let key = certificate.public_key().ok()?;
     public(&key).map(|it| sha256(&it))
 }
 
 /// The public key of an author.
+#[derive(Debug)]
 pub struct PublicKey(PKey<Public>);
 
 impl PublicKey {

@@ -7,10 +7,10 @@
 //! A message is written by one call before it is printed or passed on; the system is not told to sync. A kill of the process loses
 //! nothing of it, a loss of power may lose the newest messages.
 
+use crate::gossip::{Coverage, Message, Past};
 use crate::identity::PeerId;
 use crate::message::{MAX_MESSAGE, Signed, hash};
 use crate::of;
-use broadcast_relay::gossip::Coverage;
 use bytes::Bytes;
 use hex::FromHex;
 use std::collections::{BTreeSet, VecDeque};
@@ -54,15 +54,15 @@ fn check(parts: &[&[u8]]) -> [u8; CHECK] {
     hash(parts).first_chunk().copied().unwrap_or_default()
 }
 
-/// What a journal had: what was had of an author, and the newest messages, in the order in which they came.
-#[derive(Debug, Default)]
-pub struct Past {
-    pub covered: Coverage,
-    pub messages: VecDeque<Signed>,
+/// What is read of files: what was had of an author, and the newest messages, in the order in which they came.
+#[derive(Default)]
+struct Found {
+    covered: Coverage,
+    messages: VecDeque<Signed>,
     bytes: u64,
 }
 
-impl Past {
+impl Found {
     fn push(&mut self, message: Signed, most: u64) {
         self.covered.cover(message.prev, message.stamp);
         self.bytes += message.bytes.len() as u64;
@@ -88,22 +88,29 @@ pub struct Journal {
 }
 
 impl Journal {
-    /// Opens the files of an author, which may have some more than `most` bytes each.
+    /// Opens the files of an author, which may have some more than `most` bytes each. Returns besides what was had, and the newest
+    /// messages, whose author has the number 0 until it is listed.
     pub fn open(folder: &Path, author: &PeerId, most: u64) -> io::Result<(Journal, Past)> {
         let [older, newer] = files(folder, author);
-        let mut past = Past::default();
+        let mut found = Found::default();
         for path in [&older, &newer] {
             if path.exists() {
-                recover(path, &mut past, most).map_err(of(path))?;
+                recover(path, &mut found, most).map_err(of(path))?;
             }
         }
         let file = private().open(&newer).map_err(of(&newer))?;
         let len = file.metadata()?.len();
-        let mut journal = Journal { older, newer, file, len, most, covered: past.covered.clone() };
+        let covered = found.covered;
+        let mut journal = Journal { older, newer, file, len, most, covered: covered.clone() };
         if len == 0 {
-            journal.write(&head(&journal.covered))?;
+            journal.write(&head(&covered))?;
         }
-        Ok((journal, past))
+        let numbered =
+            |it: Signed| Message { author: 0, stamp: it.stamp, prev: it.prev, bytes: it.bytes };
+        Ok((
+            journal,
+            Past { covered, messages: found.messages.into_iter().map(numbered).collect() },
+        ))
     }
 
     /// Appends messages, all or none.
@@ -158,24 +165,25 @@ fn head(covered: &Coverage) -> Vec<u8> {
     head
 }
 
-/// Calls `each` with the messages of all authors in a folder.
-pub fn read(folder: &Path, mut each: impl FnMut(Signed)) -> io::Result<()> {
+/// Calls `each` with the messages of all authors in a folder, until it fails.
+pub fn read(folder: &Path, each: impl FnMut(Signed) -> io::Result<()>) -> io::Result<()> {
+    let mut each = each;
     let mut authors = BTreeSet::new();
     for it in fs::read_dir(folder).map_err(of(folder))? {
         authors.extend(it?.path().file_stem().and_then(|it| <PeerId>::from_hex(it.to_str()?).ok()));
     }
     for file in authors.iter().flat_map(|it| files(folder, it)).filter(|it| it.exists()) {
-        let mut past = Past::default();
-        parse(&fs::read(&file).map_err(of(&file))?, &mut past, u64::MAX);
-        past.messages.into_iter().for_each(&mut each);
+        let mut found = Found::default();
+        parse(&fs::read(&file).map_err(of(&file))?, &mut found, u64::MAX);
+        found.messages.into_iter().try_for_each(&mut each)?;
     }
     Ok(())
 }
 
 /// Reads a file. What cannot be read is kept aside and cut off, or passed over if it is one record.
-fn recover(path: &Path, past: &mut Past, most: u64) -> io::Result<()> {
+fn recover(path: &Path, found: &mut Found, most: u64) -> io::Result<()> {
     let bytes = fs::read(path)?;
-    let (whole, wrong) = parse(&bytes, past, most);
+    let (whole, wrong) = parse(&bytes, found, most);
     let cut = bytes.len() - whole;
     if cut == 0 && wrong == 0 {
         return Ok(());
@@ -190,11 +198,11 @@ fn recover(path: &Path, past: &mut Past, most: u64) -> io::Result<()> {
 }
 
 /// Returns how many bytes of a file are whole records, and how many of these are wrong.
-fn parse(bytes: &[u8], past: &mut Past, most: u64) -> (usize, usize) {
+fn parse(bytes: &[u8], found: &mut Found, most: u64) -> (usize, usize) {
     let Some(head) = bytes.get(..HEAD).filter(|it| it.starts_with(MAGIC)) else { return (0, 0) };
     let covered = parse_head(head);
     for (after, upto) in covered.iter().flat_map(Coverage::runs) {
-        past.covered.cover(after, upto);
+        found.covered.cover(after, upto);
     }
     let (mut at, mut wrong) = (HEAD, usize::from(covered.is_none()));
     let mut parsed = (at, wrong);
@@ -204,7 +212,7 @@ fn parse(bytes: &[u8], past: &mut Past, most: u64) -> (usize, usize) {
     while at < bytes.len() {
         match parse_record(bytes, at).filter(|(it, _)| is_sure || it.is_signed()) {
             Some((message, end)) => {
-                past.push(message, most);
+                found.push(message, most);
                 at = end;
                 parsed = (at, wrong);
             }

@@ -1,35 +1,11 @@
-//! A gossip relay over mutual TLS.
-//!
-//! Messages are signed by their authors. Each relay has a part of each author's log, reports to its peers which part, and gets from
-//! them what it lacks: the protocol is in `broadcast_relay::gossip`.
+//! The program `broadcast-relay`: its command line.
 
-mod config;
-mod hub;
-mod identity;
-mod input;
-mod journal;
-mod listen;
-mod lock;
-mod message;
-mod metrics;
-mod output;
-mod peer;
-mod relay;
-mod session;
-mod setup;
-mod strangers;
-mod tls;
-mod wire;
-
-use broadcast_relay::gossip::Time;
+use broadcast_relay::commands;
+use broadcast_relay::identity::{Identity, keygen};
 use clap::Parser;
-use config::Config;
-use identity::{Identity, keygen};
-use std::io;
-use std::path::{Path, PathBuf};
+use std::io::{self, BufWriter};
+use std::path::PathBuf;
 use std::process::ExitCode;
-use std::sync::LazyLock;
-use std::time::Instant;
 
 /// A gossip relay over mutual TLS.
 #[derive(Parser)]
@@ -76,33 +52,12 @@ fn main() -> ExitCode {
 
 fn run(command: Command) -> io::Result<()> {
     match command {
-        Command::Run { config, check_config: false } => relay::run(&config),
-        Command::Run { config, check_config: true } => setup::check(&config),
-        Command::Init { folder, listen, with } => setup::init(&folder, listen, &with),
+        Command::Run { config, check_config: false } => commands::run(&config),
+        Command::Run { config, check_config: true } => commands::check(&config),
+        Command::Init { folder, listen, with } => commands::init(&folder, listen, &with),
         Command::Keygen { file } => keygen(&file).map(|it| println!("{}", hex::encode(it.id))),
         Command::Key { file } => Identity::load(&file).map(|it| println!("{}", hex::encode(it.id))),
-        Command::Entry { config, name } => {
-            Config::load(&config)?.entry(&name).map(|it| print!("{it}"))
-        }
-        Command::Log { journal } => journal::read(&journal, |it| {
-            let line = output::line(output::Form::Shown, &hex::encode(it.author), &it);
-            print!("{}", String::from_utf8_lossy(&line));
-        }),
+        Command::Entry { config, name } => commands::entry(&config, &name).map(|it| print!("{it}")),
+        Command::Log { journal } => commands::log(&journal, &mut BufWriter::new(io::stdout())),
     }
-}
-
-/// Names an error by its file.
-fn of(path: &Path) -> impl FnOnce(io::Error) -> io::Error + use<'_> {
-    move |why| io::Error::new(why.kind(), format!("{}: {why}", path.display()))
-}
-
-/// Microseconds since the first call.
-fn now() -> Time {
-    static START: LazyLock<Instant> = LazyLock::new(Instant::now);
-    START.elapsed().as_micros() as Time
-}
-
-/// What came, or was read, is wrong.
-fn invalid(why: impl ToString) -> io::Error {
-    io::Error::new(io::ErrorKind::InvalidData, why.to_string())
 }

@@ -1,7 +1,8 @@
 //! TLS 1.3 both ways. No authority vouches for a certificate: the configuration lists the key, or the handshake fails.
 
-use crate::hub::Hub;
 use crate::identity::{PeerId, id_of};
+use crate::intake::Intake;
+use crate::now;
 use openssl::error::ErrorStack;
 use openssl::ssl::{
     Ssl, SslContext, SslMethod, SslOptions, SslSessionCacheMode, SslVerifyMode, SslVersion,
@@ -15,7 +16,7 @@ use tokio_openssl::SslStream;
 
 pub struct Tls {
     context: SslContext,
-    hub: Arc<Hub>,
+    intake: Arc<Intake>,
 }
 
 /// A connection whose peer has proved its key.
@@ -36,26 +37,28 @@ fn is_of(store: &mut X509StoreContextRef, may: impl FnOnce(&PeerId) -> bool) -> 
 }
 
 impl Tls {
-    pub fn new(hub: Arc<Hub>) -> Result<Tls, ErrorStack> {
+    pub fn new(intake: Arc<Intake>) -> Result<Tls, ErrorStack> {
         let mut builder = SslContext::builder(SslMethod::tls())?;
         builder.set_min_proto_version(Some(SslVersion::TLS1_3))?;
-        let certificate = hub.identity.certificate()?;
+        let certificate = intake.identity.certificate()?;
         builder.set_certificate(&certificate)?;
-        builder.set_private_key(&hub.identity.key)?;
+        builder.set_private_key(&intake.identity.key)?;
         builder.set_session_cache_mode(SslSessionCacheMode::OFF);
         builder.set_options(SslOptions::NO_TICKET);
         builder.set_verify_depth(0);
-        let known = hub.clone();
+        let known = intake.clone();
         // Refuses strangers early; `accept` decides.
-        builder.set_verify_callback(MUTUAL, move |_, store| is_of(store, |it| known.admits(it)));
-        Ok(Tls { context: builder.build(), hub })
+        builder.set_verify_callback(MUTUAL, move |_, store| {
+            is_of(store, |it| known.admits(now(), it))
+        });
+        Ok(Tls { context: builder.build(), intake })
     }
 
     /// Returns the connection, and who it is.
     pub async fn accept(&self, stream: TcpStream) -> io::Result<(Stream, PeerId)> {
         let mut stream = SslStream::new(Ssl::new(&self.context)?, stream)?;
         Pin::new(&mut stream).accept().await.map_err(io::Error::other)?;
-        match id(&stream).filter(|it| self.hub.admits(it)) {
+        match id(&stream).filter(|it| self.intake.admits(now(), it)) {
             Some(id) => Ok((stream, id)),
             None => Err(io::Error::other("a stranger")),
         }

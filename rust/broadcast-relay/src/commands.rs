@@ -1,8 +1,11 @@
-//! Makes and checks configurations.
+//! What the commands of the program do.
 
 use crate::config::{Config, check_name};
+pub use crate::daemon::run;
 use crate::identity::{Identity, keygen};
 use crate::invalid;
+use crate::journal;
+use crate::output::{self, Form};
 use std::fs::{self, File};
 use std::io::{self, Write};
 use std::net::SocketAddr;
@@ -57,7 +60,7 @@ pub fn check(file: &Path) -> io::Result<()> {
 }
 
 /// Takes as many places for handshakes as the limit on descriptors leaves, so that none is ever lacking for a peer.
-pub fn fit(config: &mut Config) -> io::Result<()> {
+pub(crate) fn fit(config: &mut Config) -> io::Result<()> {
     let limits = fs::read_to_string("/proc/self/limits").unwrap_or_default();
     let line = limits.lines().find_map(|it| it.strip_prefix("Max open files"));
     let soft = line.and_then(|it| it.split_whitespace().next()?.parse().ok()).unwrap_or(u64::MAX);
@@ -74,4 +77,18 @@ pub fn fit(config: &mut Config) -> io::Result<()> {
     limits.handshakes = left;
     limits.handshakes_per_address = limits.handshakes_per_address.min(left / 2);
     Ok(())
+}
+
+/// Returns what the configurations of other relays need to name the one of a configuration.
+pub fn entry(file: &Path, name: &str) -> io::Result<String> {
+    check_name(name).map_err(invalid)?;
+    Config::load(file)?.entry(name)
+}
+
+/// Writes the messages of a journal, as `AUTHOR STAMP TEXT`.
+pub fn log(folder: &Path, to: &mut impl Write) -> io::Result<()> {
+    journal::read(folder, |it| {
+        to.write_all(&output::line(Form::Shown, &hex::encode(it.author), &it))
+    })?;
+    to.flush()
 }

@@ -1,17 +1,19 @@
 //! Runs a relay, from its start to its end.
 
+use crate::commands;
 use crate::config::Config;
-use crate::hub::Hub;
+use crate::gossip::{Coverage, SECOND};
 use crate::identity::Identity;
-use crate::input;
+use crate::input::{self, Lines};
+use crate::intake::{Deliver, Intake, Parts};
 use crate::journal;
-use crate::listen::{Network, accept, apart, start_dialing};
-use crate::metrics::{Metrics, serve_metrics};
-use crate::output::Output;
-use crate::setup;
+use crate::listen::{Met, Network, accept, apart, start_dialing};
+use crate::metrics::{self, serve_metrics};
+use crate::now;
+use crate::output::{self, MAX_WAITING, Output};
 use crate::strangers::Strangers;
 use crate::tls::Tls;
-use broadcast_relay::gossip::Coverage;
+use crate::trouble::Trouble;
 use std::fs::File;
 use std::future::pending;
 use std::io::{self, IsTerminal, stdin};
@@ -23,7 +25,7 @@ use std::time::Duration;
 use tokio::net::TcpListener;
 use tokio::runtime::Builder;
 use tokio::signal::unix::{SignalKind, signal};
-use tokio::sync::{Semaphore, mpsc, oneshot};
+use tokio::sync::Semaphore;
 use tokio::time::{Instant, sleep, timeout};
 use tracing::{info, warn};
 
@@ -31,16 +33,17 @@ use tracing::{info, warn};
 const DRAIN: Duration = Duration::from_secs(10);
 /// How often it is looked whether all is written.
 const POLL: Duration = Duration::from_millis(1);
+/// How often it is looked at least whether something is due.
+const LOOK: Duration = Duration::from_secs(1);
 
 /// Runs the relay of a configuration until SIGTERM or SIGINT.
 pub fn run(file: &Path) -> io::Result<()> {
     Coverage::check().map_err(io::Error::other)?;
     let mut config = Config::load(file)?;
-    let metrics = Metrics::new().map_err(io::Error::other)?;
-    let log = Output::start_log(&metrics.log_dropped)?;
-    setup::fit(&mut config)?;
+    let log = Output::start_log()?;
+    commands::fit(&mut config)?;
     let runtime = Builder::new_multi_thread().enable_all().build()?;
-    let result = runtime.block_on(serve(file, config, metrics));
+    let result = runtime.block_on(serve(file, config, log.clone()));
     // A reader of the log that does not read is waited for only for a while.
     (0..1_000).take_while(|_| !log.is_done()).for_each(|_| thread::sleep(POLL));
     result?;
@@ -48,18 +51,14 @@ pub fn run(file: &Path) -> io::Result<()> {
     std::process::exit(0)
 }
 
-async fn serve(file: &Path, config: Config, metrics: Metrics) -> io::Result<()> {
+async fn serve(file: &Path, config: Config, log: Output) -> io::Result<()> {
     let mut terminate = signal(SignalKind::terminate())?;
     let mut interrupt = signal(SignalKind::interrupt())?;
     let mut hangup = signal(SignalKind::hangup())?;
-    let (network, _folder) = start(&config, metrics).await?;
-    let hub = &network.hub;
-    let (mut lines, end) = match config.input {
-        true => input::start()?,
-        false => (mpsc::channel(1).1, oneshot::channel().0),
-    };
+    let (network, _folder) = start(&config, log).await?;
+    let mut lines = if config.input { input::start()? } else { Lines::none() };
     let publishes = async {
-        input::publish(hub, &mut lines, None).await;
+        input::publish(&network.intake, &mut lines, None).await;
         pending().await
     };
     let hangs_up = async {
@@ -79,9 +78,8 @@ async fn serve(file: &Path, config: Config, metrics: Metrics) -> io::Result<()> 
         why = publishes => why,
     };
     info!(why, "ends");
-    drop(end);
-    drain(hub, lines).await;
-    let page = hub.metrics_page();
+    drain(&network, lines).await;
+    let page = metrics::page(&network);
     let counted = page.lines().filter(|it| !it.starts_with('#') && !it.ends_with(" 0"));
     counted.for_each(|it| info!("{it}"));
     info!("ended");
@@ -89,23 +87,51 @@ async fn serve(file: &Path, config: Config, metrics: Metrics) -> io::Result<()> 
 }
 
 /// Publishes what was read, and waits until each peer has all own messages and has closed, and all is printed, for a while.
-async fn drain(hub: &Hub, mut lines: mpsc::Receiver<Vec<u8>>) {
-    let end = Instant::now() + DRAIN / 2;
+async fn drain(network: &Network, mut lines: Lines) {
+    let (intake, end) = (&network.intake, Instant::now() + DRAIN / 2);
+    lines.stop();
     let all = async {
-        input::publish(hub, &mut lines, Some(end)).await;
-        hub.end();
-        while !hub.is_done() {
+        input::publish(intake, &mut lines, Some(end)).await;
+        intake.end();
+        while intake.is_connected() || !network.output.as_ref().is_none_or(Output::is_done) {
             sleep(POLL).await;
         }
     };
     if timeout(DRAIN, all).await.is_err() {
-        warn!("not all was sent or printed");
+        let (peers, unpublished) = (intake.lacking(), lines.read() - intake.published());
+        let unprinted = network.output.as_ref().map_or(0, Output::waiting);
+        warn!(
+            unpublished,
+            unprinted, peers, "not all was published, printed, or sent to all peers"
+        );
+    }
+}
+
+/// Reports the time to the protocol whenever it is due, and logs what begins and is over, for ever.
+async fn keep_time(network: Arc<Network>) {
+    let (intake, mut looked, mut unread) = (&network.intake, now(), Trouble::default());
+    loop {
+        let rest = Duration::from_micros(intake.plan().saturating_sub(now())).min(LOOK);
+        if timeout(rest, intake.earlier.notified()).await.is_err() {
+            intake.timeout(now());
+        }
+        if now() < looked + SECOND {
+            continue;
+        }
+        looked = now();
+        intake.look(looked);
+        let lines = network.output.as_ref().map_or(0, Output::dropped);
+        match unread.note(looked, lines) {
+            Some(true) => warn!(lines, "lines are not printed: nobody reads the output in time"),
+            Some(false) => warn!(lines, "lines are printed again"),
+            None => {}
+        }
     }
 }
 
 /// Starts listener and dialers. No journal is touched before the ports and the folder are this relay's. Returns besides the lock of
 /// the folder.
-async fn start(config: &Config, metrics: Metrics) -> io::Result<(Arc<Network>, Option<File>)> {
+async fn start(config: &Config, log: Output) -> io::Result<(Arc<Network>, Option<File>)> {
     let identity = Identity::load(&config.key)?;
     let listener = bind(config.listen).await?;
     let served = match config.metrics {
@@ -113,26 +139,49 @@ async fn start(config: &Config, metrics: Metrics) -> io::Result<(Arc<Network>, O
         None => None,
     };
     let folder = config.journal.as_deref().map(journal::lock_folder).transpose()?;
-    let hub = Arc::new(Hub::new(identity, config, metrics)?);
-    if let Some((listener, address)) = served {
-        info!(%address, "metrics");
-        tokio::spawn(serve_metrics(hub.clone(), listener));
-    }
+    let output = match config.output {
+        Some(_) => Some(Output::start("output", io::stdout(), MAX_WAITING)?),
+        None => None,
+    };
+    let intake = Arc::new(Intake::new(Parts {
+        identity,
+        bounds: config.limits.bounds(),
+        signature_cost: config.limits.signature_cost(),
+        journal: config.journal.clone(),
+        deliver: printer(config, &output),
+    })?);
     let [places, of_address] =
         [config.limits.handshakes, config.limits.handshakes_per_address].map(|it| it as usize);
     let network = Arc::new(Network {
-        tls: Tls::new(hub.clone())?,
-        hub,
+        tls: Tls::new(intake.clone())?,
+        intake,
         strangers: Strangers::new(places, of_address),
         accepted: Arc::new(Semaphore::new(2 * places)),
+        met: Met::default(),
+        output,
+        log,
     });
+    if let Some((listener, address)) = served {
+        info!(%address, "metrics");
+        tokio::spawn(serve_metrics(network.clone(), listener));
+    }
     set_peers(&network, config.clone()).await?;
-    let key = hex::encode(network.hub.identity.id);
+    let key = hex::encode(network.intake.identity.id);
     info!(address = %config.listen, key, "listening");
-    let times = network.hub.clone();
-    tokio::spawn(async move { times.keep_time().await });
+    tokio::spawn(keep_time(network.clone()));
     tokio::spawn(accept(network.clone(), listener));
     Ok((network, folder))
+}
+
+/// What prints each new message, if that is configured.
+fn printer(config: &Config, output: &Option<Output>) -> Deliver {
+    match (config.output, output.clone()) {
+        (Some(form), Some(output)) => Box::new(move |author, message| {
+            let line = output::line(form, &author.config.name, message);
+            output.print(author.config.key, line);
+        }),
+        _ => Box::new(|_, _| {}),
+    }
 }
 
 async fn bind(address: SocketAddr) -> io::Result<TcpListener> {
@@ -158,8 +207,8 @@ async fn reload(network: &Arc<Network>, file: &Path, old: &Config) {
 
 /// Sets the peers, in a thread of its own, since that reads journals, and dials those that are new or have moved. Returns how many.
 async fn set_peers(network: &Arc<Network>, config: Config) -> io::Result<usize> {
-    let hub = network.hub.clone();
-    let peers = apart(move || hub.set_peers(&config)).await??;
+    let intake = network.intake.clone();
+    let peers = apart(move || intake.set_peers(now(), &config.peers)).await??;
     peers.iter().for_each(|it| start_dialing(network, it.clone()));
     Ok(peers.len())
 }
