@@ -1,94 +1,101 @@
-//! What the commands of the program do.
+//! What the commands of the program do. Each writes what it prints to its last argument.
 
 use crate::config::{Config, check_name};
 pub use crate::daemon::run;
-use crate::identity::{Identity, keygen};
-use crate::invalid;
+use crate::identity::{Identity, may_others_read};
 use crate::journal;
 use crate::output::{self, Form};
+use crate::{invalid, of};
 use std::fs::{self, File};
-use std::io::{self, Write};
+use std::io::{self, ErrorKind, Write};
 use std::net::SocketAddr;
-use std::path::{Path, PathBuf};
+use std::path::{self, Path, PathBuf};
 
 /// The names of the files in a folder that `init` makes.
 const KEY: &str = "key.pem";
 const CONFIG: &str = "relay.toml";
 
-/// Makes a key and a configuration in a folder, and names it and others to each other.
-pub fn init(folder: &Path, listen: SocketAddr, with: &[PathBuf]) -> io::Result<()> {
-    let mut others = String::new();
-    for other in with {
-        others += &format!("\n{}", Config::load(&other.join(CONFIG))?.entry(&name(other)?)?);
+/// Makes a key and a configuration in a folder, and names it and others to each other. Nothing is made before all names and
+/// configurations are known to be right.
+pub fn init(
+    folder: &Path,
+    listen: SocketAddr,
+    with: &[PathBuf],
+    out: &mut impl Write,
+) -> io::Result<()> {
+    let (own, identity) = (name(folder)?, Identity::generate()?);
+    let [key, config] = [KEY, CONFIG].map(|it| folder.join(it));
+    if let Some(old) = [&key, &config].into_iter().find(|it| it.exists()) {
+        return Err(of(old)(ErrorKind::AlreadyExists.into()));
     }
-    fs::create_dir_all(folder)?;
-    let own = name(folder)?;
-    keygen(&folder.join(KEY))?;
-    let text = format!(
-        "key = \"{KEY}\"\nlisten = \"{listen}\"\n# metrics = \"127.0.0.1:9101\"\njournal = \"journal\"\ninput = true\n{others}"
+    let mut text = format!(
+        "key = \"{KEY}\"\nlisten = \"{listen}\"\n# metrics = \"127.0.0.1:9101\"\njournal = \"journal\"\ninput = true\n"
     );
-    let path = folder.join(CONFIG);
-    File::create_new(&path)?.write_all(text.as_bytes())?;
-    let entry = Config::load(&path)?.entry(&own)?;
+    let entry = Config::parse(&text).map_err(invalid)?.entry_of(&own, &identity);
     for other in with {
         let file = other.join(CONFIG);
-        let mut config = File::options().append(true).open(&file)?;
-        config.write_all(format!("\n{entry}").as_bytes())?;
-        eprintln!("{own} is a peer in {} now", file.display());
+        text += &format!("\n{}", Config::load(&file)?.entry(&name(other)?)?);
+        let theirs = format!("{}\n{entry}", fs::read_to_string(&file)?);
+        Config::parse(&theirs).map_err(invalid).map_err(of(&file))?;
     }
-    print!("{entry}");
-    Ok(())
+    Config::parse(&text).map_err(invalid).map_err(of(&config))?;
+    fs::create_dir_all(folder).map_err(of(folder))?;
+    identity.save(&key)?;
+    File::create_new(&config)?.write_all(text.as_bytes())?;
+    for file in with.iter().map(|it| it.join(CONFIG)) {
+        let mut theirs = File::options().append(true).open(&file)?;
+        theirs.write_all(format!("\n{entry}").as_bytes())?;
+        eprintln!(
+            "{own} is a peer in {} now: a relay that runs reads it after SIGHUP",
+            file.display()
+        );
+    }
+    eprintln!("to run it: broadcast-relay run {}", config.display());
+    write!(out, "{entry}")
 }
 
+/// The name of the relay in a folder, which need not exist.
 fn name(folder: &Path) -> io::Result<String> {
-    let path = fs::canonicalize(folder)?;
+    let path = fs::canonicalize(folder).or_else(|_| path::absolute(folder))?;
     let name = path.file_name().unwrap_or_default().to_string_lossy();
     check_name(&name).map(|()| name.into_owned()).map_err(invalid)
 }
 
-/// Checks a configuration, and says what it takes.
-pub fn check(file: &Path) -> io::Result<()> {
+/// Makes a key in a new file, and prints it as peers name it.
+pub fn keygen(file: &Path, out: &mut impl Write) -> io::Result<()> {
+    let identity = Identity::generate()?;
+    identity.save(file)?;
+    writeln!(out, "{}", hex::encode(identity.id))
+}
+
+/// Prints the key of a file as peers name it.
+pub fn key(file: &Path, out: &mut impl Write) -> io::Result<()> {
+    writeln!(out, "{}", hex::encode(Identity::load(file)?.id))
+}
+
+/// Prints what the configurations of other relays need to name that of a configuration.
+pub fn entry(file: &Path, name: &str, out: &mut impl Write) -> io::Result<()> {
+    check_name(name).map_err(invalid)?;
+    write!(out, "{}", Config::load(file)?.entry(name)?)
+}
+
+/// Checks a configuration, and prints what it takes.
+pub fn check(file: &Path, out: &mut impl Write) -> io::Result<()> {
     let config = Config::load(file)?;
     let id = Identity::load(&config.key)?.id;
     if config.peers.iter().any(|it| it.key == id) {
-        return Err(io::Error::other("the own key is among the peers"));
+        return Err(of(file)(io::Error::other("the own key is among the peers")));
     }
-    println!("{} peers", config.peers.len());
-    println!("memory: at most {} MiB", config.memory_bound() >> 20);
-    println!("descriptors: at most {}", config.descriptors());
-    Ok(())
+    if may_others_read(&config.key)? {
+        eprintln!("{}: others may read this key", config.key.display());
+    }
+    writeln!(out, "peers: {}", config.peers.len())?;
+    writeln!(out, "memory: at most {} MiB", config.memory_bound() >> 20)?;
+    writeln!(out, "descriptors: at most {}", config.descriptors())
 }
 
-/// Takes as many places for handshakes as the limit on descriptors leaves, so that none is ever lacking for a peer.
-pub(crate) fn fit(config: &mut Config) -> io::Result<()> {
-    let limits = fs::read_to_string("/proc/self/limits").unwrap_or_default();
-    let line = limits.lines().find_map(|it| it.strip_prefix("Max open files"));
-    let soft = line.and_then(|it| it.split_whitespace().next()?.parse().ok()).unwrap_or(u64::MAX);
-    let spared = config.descriptors().saturating_sub(soft).div_ceil(2);
-    if spared == 0 {
-        return Ok(());
-    }
-    let limits = &mut config.limits;
-    let left = limits.handshakes.saturating_sub(spared);
-    if left < 4 {
-        return Err(io::Error::other(format!("{soft} descriptors are too few for these peers")));
-    }
-    tracing::warn!(soft, left, "few descriptors, so few places for handshakes");
-    limits.handshakes = left;
-    limits.handshakes_per_address = limits.handshakes_per_address.min(left / 2);
-    Ok(())
-}
-
-/// Returns what the configurations of other relays need to name the one of a configuration.
-pub fn entry(file: &Path, name: &str) -> io::Result<String> {
-    check_name(name).map_err(invalid)?;
-    Config::load(file)?.entry(name)
-}
-
-/// Writes the messages of a journal, as `AUTHOR STAMP TEXT`.
-pub fn log(folder: &Path, to: &mut impl Write) -> io::Result<()> {
-    journal::read(folder, |it| {
-        to.write_all(&output::line(Form::Shown, &hex::encode(it.author), &it))
-    })?;
-    to.flush()
+/// Prints the messages of a journal, as `AUTHOR STAMP TEXT`, or as they were typed.
+pub fn log(folder: &Path, is_raw: bool, out: &mut impl Write) -> io::Result<()> {
+    let form = if is_raw { Form::Raw } else { Form::Shown };
+    journal::read(folder, |it| out.write_all(&output::line(form, &hex::encode(it.author), &it)))
 }

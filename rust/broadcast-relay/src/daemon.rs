@@ -1,9 +1,8 @@
 //! Runs a relay, from its start to its end.
 
-use crate::commands;
 use crate::config::Config;
 use crate::gossip::{Coverage, SECOND};
-use crate::identity::Identity;
+use crate::identity::{Identity, may_others_read};
 use crate::input::{self, Lines};
 use crate::intake::{Deliver, Intake, Parts};
 use crate::journal;
@@ -14,7 +13,7 @@ use crate::output::{self, MAX_WAITING, Output};
 use crate::strangers::Strangers;
 use crate::tls::Tls;
 use crate::trouble::Trouble;
-use std::fs::File;
+use std::fs::{self, File};
 use std::future::pending;
 use std::io::{self, IsTerminal, stdin};
 use std::net::SocketAddr;
@@ -41,7 +40,7 @@ pub fn run(file: &Path) -> io::Result<()> {
     Coverage::check().map_err(io::Error::other)?;
     let mut config = Config::load(file)?;
     let log = Output::start_log()?;
-    commands::fit(&mut config)?;
+    fit(&mut config)?;
     let runtime = Builder::new_multi_thread().enable_all().build()?;
     let result = runtime.block_on(serve(file, config, log.clone()));
     // A reader of the log that does not read is waited for only for a while.
@@ -49,6 +48,26 @@ pub fn run(file: &Path) -> io::Result<()> {
     result?;
     // The thread that reads the input may wait for it for ever.
     std::process::exit(0)
+}
+
+/// Takes as many places for handshakes as the limit on descriptors leaves, so that none is ever lacking for a peer.
+fn fit(config: &mut Config) -> io::Result<()> {
+    let limits = fs::read_to_string("/proc/self/limits").unwrap_or_default();
+    let line = limits.lines().find_map(|it| it.strip_prefix("Max open files"));
+    let soft = line.and_then(|it| it.split_whitespace().next()?.parse().ok()).unwrap_or(u64::MAX);
+    let spared = config.descriptors().saturating_sub(soft).div_ceil(2);
+    if spared == 0 {
+        return Ok(());
+    }
+    let limits = &mut config.limits;
+    let left = limits.handshakes.saturating_sub(spared);
+    if left < 4 {
+        return Err(io::Error::other(format!("{soft} descriptors are too few for these peers")));
+    }
+    warn!(soft, left, "few descriptors, so few places for handshakes");
+    limits.handshakes = left;
+    limits.handshakes_per_address = limits.handshakes_per_address.min(left / 2);
+    Ok(())
 }
 
 async fn serve(file: &Path, config: Config, log: Output) -> io::Result<()> {
@@ -133,6 +152,9 @@ async fn keep_time(network: Arc<Network>) {
 /// the folder.
 async fn start(config: &Config, log: Output) -> io::Result<(Arc<Network>, Option<File>)> {
     let identity = Identity::load(&config.key)?;
+    if may_others_read(&config.key)? {
+        warn!(file = %config.key.display(), "others may read this key");
+    }
     let listener = bind(config.listen).await?;
     let served = match config.metrics {
         Some(address) => Some((bind(address).await?, address)),

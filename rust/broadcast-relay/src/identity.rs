@@ -27,15 +27,9 @@ pub struct Identity {
     pub id: PeerId,
 }
 
-/// Makes a key, and writes it to a new file that only its owner may read.
-pub fn keygen(file: &Path) -> io::Result<Identity> {
-    let identity = Identity::generate()?;
-    let pem = identity.key.private_key_to_pem_pkcs8()?;
-    let mut file =
-        OpenOptions::new().write(true).create_new(true).mode(0o600).open(file).map_err(of(file))?;
-    file.write_all(&pem)?;
-    file.sync_all()?;
-    Ok(identity)
+/// Whether others than its owner may read a file.
+pub fn may_others_read(file: &Path) -> io::Result<bool> {
+    Ok(metadata(file).map_err(of(file))?.permissions().mode() & 0o077 != 0)
 }
 
 impl Identity {
@@ -47,12 +41,20 @@ impl Identity {
     /// Reads a key from a file.
     pub fn load(file: &Path) -> io::Result<Identity> {
         let load = || {
-            if metadata(file)?.permissions().mode() & 0o077 != 0 {
-                tracing::warn!(file = %file.display(), "others may read this key");
-            }
-            Identity::of(PKey::private_key_from_pem(&read(file)?)?)
+            let key = PKey::private_key_from_pem(&read(file)?);
+            Identity::of(key.map_err(|_| invalid("not a private key in PEM form"))?)
         };
         load().map_err(of(file))
+    }
+
+    /// Writes the key to a new file that only its owner may read.
+    pub fn save(&self, file: &Path) -> io::Result<()> {
+        let pem = self.key.private_key_to_pem_pkcs8()?;
+        let mut options = OpenOptions::new();
+        let new = options.write(true).create_new(true).mode(0o600);
+        let mut new = new.open(file).map_err(of(file))?;
+        new.write_all(&pem)?;
+        new.sync_all()
     }
 
     fn of(key: PKey<Private>) -> io::Result<Identity> {

@@ -166,8 +166,7 @@ fn head(covered: &Coverage) -> Vec<u8> {
 }
 
 /// Calls `each` with the messages of all authors in a folder, until it fails.
-pub fn read(folder: &Path, each: impl FnMut(Signed) -> io::Result<()>) -> io::Result<()> {
-    let mut each = each;
+pub fn read(folder: &Path, mut each: impl FnMut(Signed) -> io::Result<()>) -> io::Result<()> {
     let mut authors = BTreeSet::new();
     for it in fs::read_dir(folder).map_err(of(folder))? {
         authors.extend(it?.path().file_stem().and_then(|it| <PeerId>::from_hex(it.to_str()?).ok()));

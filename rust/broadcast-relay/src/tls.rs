@@ -10,7 +10,7 @@ use openssl::ssl::{
 use openssl::x509::{X509StoreContextRef, X509VerifyResult};
 use std::io;
 use std::pin::Pin;
-use std::sync::Arc;
+use std::sync::{Arc, OnceLock};
 use tokio::net::TcpStream;
 use tokio_openssl::SslStream;
 
@@ -68,14 +68,22 @@ impl Tls {
     /// takes no connection's place there.
     pub async fn connect(&self, stream: TcpStream, expected: PeerId) -> io::Result<Stream> {
         let mut ssl = Ssl::new(&self.context)?;
-        ssl.set_verify_callback(MUTUAL, move |_, store| is_of(store, |it| *it == expected));
+        let seen = Arc::new(OnceLock::new());
+        let found = seen.clone();
+        let is_expected = move |it: &PeerId| {
+            found.get_or_init(|| *it);
+            *it == expected
+        };
+        ssl.set_verify_callback(MUTUAL, move |_, store| is_of(store, &is_expected));
         let mut stream = SslStream::new(ssl, stream)?;
         let connected = Pin::new(&mut stream).connect().await;
         let is_other = stream.ssl().verify_result() != X509VerifyResult::OK;
         if is_other || (connected.is_ok() && id(&stream) != Some(expected)) {
-            return Err(io::Error::other("another key listens there"));
+            let other = seen.get().map(hex::encode).unwrap_or_default();
+            return Err(io::Error::other(format!("another key listens there: {other}")));
         }
-        connected.map(|()| stream).map_err(io::Error::other)
+        let failed = |why| io::Error::other(format!("no handshake of TLS 1.3: {why}"));
+        connected.map(|()| stream).map_err(failed)
     }
 }
 
