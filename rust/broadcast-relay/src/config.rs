@@ -1,6 +1,6 @@
 //! The configuration, a TOML file.
 
-use crate::gossip::{Bounds, OVERHEAD};
+use crate::gossip::{Bounds, CHARGE};
 use crate::identity::{Identity, PeerId};
 use crate::message::MAX_MESSAGE;
 use crate::output::{Form, MAX_WAITING};
@@ -92,7 +92,7 @@ impl Limits {
             list,
             behind: list / 2,
             room: (256 << 10).min(burst / 8).min(list / 16),
-            largest: MAX_MESSAGE as u64 + OVERHEAD,
+            largest: MAX_MESSAGE as u64 + CHARGE,
             rate,
             burst,
             least: rate / self.author_messages_per_second,
@@ -196,8 +196,8 @@ impl Config {
     pub fn memory_bound(&self) -> u64 {
         let (peers, limits) = (self.peers.len() as u64, &self.limits);
         let author = 2 * limits.bytes_per_peer + 2 * MAX_WAITING as u64;
-        // Two coverages, and a place in a tree for each message in flight.
-        let view = 4_096 + 48 * limits.bounds().room / OVERHEAD;
+        // A report, and what is known of each message that is in flight, or that came since the last report.
+        let view = 4_096 + 24 * (limits.bounds().room + limits.bytes_per_peer / 8) / CHARGE;
         let peer = (1 << 20) + (peers + 1) * view;
         let handshakes = limits.handshakes * (96 << 10);
         (48 << 20) + (peers + 1) * author + 3 * limits.bytes_per_peer + peers * peer + handshakes

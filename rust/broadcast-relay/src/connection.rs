@@ -5,7 +5,7 @@ use crate::intake::{Connection, Intake};
 use crate::message::Signed;
 use crate::tls::Stream;
 use crate::wire::{Packet, VERSION, read_packet};
-use crate::{invalid, now};
+use crate::{clock, invalid, now};
 use std::future::pending;
 use std::io::{self, ErrorKind};
 use std::sync::Arc;
@@ -96,7 +96,7 @@ async fn read(
             Packet::Message(bytes) => {
                 let len = bytes.len() as u64;
                 let message = Signed::decode(bytes).map_err(invalid)?;
-                let is_new = intake.take(now(), connection, message)? == Taken::New;
+                let is_new = intake.take(now(), clock(), connection, message)? == Taken::New;
                 1 + if is_new { 0 } else { len / USELESS }
             }
             Packet::Hello(_) => return Err(invalid("a second first packet")),

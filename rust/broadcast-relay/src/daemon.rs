@@ -1,7 +1,7 @@
 //! Runs a relay, from its start to its end.
 
 use crate::config::Config;
-use crate::gossip::{Coverage, SECOND};
+use crate::gossip::{self, SECOND};
 use crate::identity::{Identity, may_others_read};
 use crate::input::{self, Lines};
 use crate::intake::{Deliver, Intake, Parts};
@@ -37,7 +37,7 @@ const LOOK: Duration = Duration::from_secs(1);
 
 /// Runs the relay of a configuration until SIGTERM or SIGINT.
 pub fn run(file: &Path) -> io::Result<()> {
-    Coverage::check().map_err(io::Error::other)?;
+    gossip::check().map_err(io::Error::other)?;
     let mut config = Config::load(file)?;
     let log = Output::start_log()?;
     fit(&mut config)?;

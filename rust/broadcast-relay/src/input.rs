@@ -2,14 +2,14 @@
 
 use crate::intake::Intake;
 use crate::message::{MAX_BATCH, MAX_TEXT};
-use crate::now;
+use crate::{clock, now};
 use std::fs::File;
 use std::io::{self, ErrorKind, Read};
 use std::os::fd::{AsFd, AsRawFd};
 use std::sync::Arc;
 use std::sync::atomic::{AtomicU64, Ordering::Relaxed};
 use std::thread;
-use std::time::{Duration, SystemTime, UNIX_EPOCH};
+use std::time::Duration;
 use tokio::io::Interest;
 use tokio::io::unix::AsyncFd;
 use tokio::runtime::Handle;
@@ -154,7 +154,7 @@ pub async fn publish(intake: &Intake, lines: &mut Lines, end: Option<Instant>) {
         }
         // Again and again until it succeeds, as on a full disk.
         let mut has_failed = false;
-        while let Err(why) = intake.publish(now(), nanoseconds(), &batch) {
+        while let Err(why) = intake.publish(now(), clock(), &batch) {
             if !has_failed {
                 error!(%why, "lines are not broadcast, and tried again");
                 has_failed = true;
@@ -163,9 +163,4 @@ pub async fn publish(intake: &Intake, lines: &mut Lines, end: Option<Instant>) {
         }
         sleep_until(next).await;
     }
-}
-
-/// Nanoseconds since 1970.
-fn nanoseconds() -> u64 {
-    SystemTime::now().duration_since(UNIX_EPOCH).unwrap_or_default().as_nanos() as u64
 }

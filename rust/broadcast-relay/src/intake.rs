@@ -24,6 +24,8 @@ use tracing::{debug, info, warn};
 
 /// The longest round trip, in microseconds, that a peer has that dials, unless this relay dials a peer that is farther away.
 const ACCEPTED: Time = 50_000;
+/// By how many nanoseconds a stamp may be later than this relay's clock. A later one waits at its author.
+const AHEAD: u64 = 24 * 3_600 * 1_000_000_000;
 /// The number of this relay.
 const OWN: usize = 0;
 
@@ -126,9 +128,7 @@ pub struct Standing {
     pub is_held: bool,
     /// Whether it stands still, and nobody waits for it any more.
     pub is_stalled: bool,
-    /// How many gaps of its log were closed, and how many no connected peer could fill.
-    pub given_up: u64,
-    /// See `given_up`.
+    /// How many gaps of its log no connected peer could fill.
     pub lost: u64,
     /// How many messages left a list while it lacked them.
     pub left_behind: u64,
@@ -360,9 +360,15 @@ impl Intake {
         }
     }
 
-    /// Takes a message: checks the signature, journals it and delivers it, if it is wanted. Returns what became of it. A wrong message
+    /// Takes a message: checks the signature, journals it and delivers it, if it is wanted, at some nanoseconds since 1970. Returns what became of it. A wrong message
     /// is [`ErrorKind::InvalidData`]; after any error nothing was taken.
-    pub fn take(&self, now: Time, from: &Connection, message: Signed) -> io::Result<Taken> {
+    pub fn take(
+        &self,
+        now: Time,
+        clock: u64,
+        from: &Connection,
+        message: Signed,
+    ) -> io::Result<Taken> {
         let peer = from.peer.node;
         let author = self.shared.lock().registry.find(&message.author).cloned();
         let Some(author) = author else {
@@ -372,7 +378,8 @@ impl Intake {
         let (node, mut cost) = (author.node, 0);
         let mut known = author.author.lock();
         let it = item(node, &message);
-        let (shared, now) = self.at(now);
+        let (mut shared, now) = self.at(now);
+        shared.machine.set_latest(clock + AHEAD);
         let is_wanted = shared.machine.wants(now, peer, &it);
         drop(shared);
         if is_wanted {
@@ -541,7 +548,6 @@ fn standing(machine: &Machine, registry: &Registry, peer: &Peer, now: Time) -> S
         is_connected: seat.connection.is_some(),
         is_held: log.is_held,
         is_stalled: machine.is_stalled(now, node),
-        given_up: log.given_up,
         lost: log.lost,
         left_behind: machine.left_behind(node),
         counts: seat.counts,
@@ -557,7 +563,7 @@ fn item(author: usize, message: &Signed) -> Message {
 #[cfg(test)]
 mod tests {
     use super::*;
-    use crate::gossip::{Coverage, SECOND};
+    use crate::gossip::SECOND;
     use crate::wire::read_packet;
     use std::sync::mpsc::{Receiver, channel};
     use tokio::runtime::Builder;
@@ -611,7 +617,7 @@ mod tests {
         let runtime = Builder::new_current_thread().build().unwrap();
         while let Ok(packet) = runtime.block_on(read_packet(&mut rest)) {
             match packet {
-                Packet::Message(it) => drop(to.0.take(now, to.1, Signed::decode(it).unwrap())),
+                Packet::Message(it) => drop(to.0.take(now, 0, to.1, Signed::decode(it).unwrap())),
                 Packet::Report(author, it) => to.0.hear(now, to.1, &author, it),
                 _ => panic!("{packet:?}"),
             }
@@ -660,13 +666,13 @@ mod tests {
         };
         let (before, messages) = (level(0), batch(&author, 5, &["a", "b", "c"]));
         for it in &messages {
-            let taken = intake.take(0, &of_author, it.clone()).unwrap();
+            let taken = intake.take(0, 0, &of_author, it.clone()).unwrap();
             assert_eq!(taken, Taken::New);
         }
         let sizes: u64 = messages.iter().map(|it| item(0, it).size()).sum();
         assert_eq!(before - level(0), sizes + COST);
         // What comes again costs nobody a check.
-        assert_eq!(intake.take(0, &from_peer, messages[1].clone()).unwrap(), Taken::Again);
+        assert_eq!(intake.take(0, 0, &from_peer, messages[1].clone()).unwrap(), Taken::Again);
         assert_eq!(
             (before - level(0), all(&delivered)),
             (sizes + COST, vec!["a".into(), "b".into(), "c".into()])
@@ -682,7 +688,8 @@ mod tests {
         let connection = attach(&intake, &author);
         let mut bytes = batch(&author, 5, &["said"])[0].bytes.to_vec();
         *bytes.last_mut().unwrap() ^= 1;
-        let why = intake.take(0, &connection, Signed::decode(bytes.into()).unwrap()).unwrap_err();
+        let why =
+            intake.take(0, 0, &connection, Signed::decode(bytes.into()).unwrap()).unwrap_err();
         intake.detach(0, &connection, &why);
         assert!(why.kind() == ErrorKind::InvalidData && !intake.admits(0, &author.id));
         assert!(all(&delivered).is_empty() && intake.admits(SECOND, &author.id));
@@ -694,10 +701,10 @@ mod tests {
         let [peer, stranger] = [(); 2].map(|()| Identity::generate().unwrap());
         let (intake, delivered) = intake(&[&peer], None);
         let connection = attach(&intake, &peer);
-        let taken = intake.take(0, &connection, batch(&stranger, 5, &["said"])[0].clone());
+        let taken = intake.take(0, 0, &connection, batch(&stranger, 5, &["said"])[0].clone());
         assert_eq!(taken.unwrap(), Taken::Unlisted);
-        intake.hear(0, &connection, &stranger.id, Report::default());
-        intake.hear(0, &connection, &peer.id, Report::default());
+        intake.hear(0, &connection, &stranger.id, Report::up_to(0));
+        intake.hear(0, &connection, &peer.id, Report::up_to(0));
         assert_eq!(counts(&intake, &peer), Counts { unlisted: 2, ..Counts::default() });
         assert!(all(&delivered).is_empty());
     }
@@ -708,11 +715,11 @@ mod tests {
         let peer = Identity::generate().unwrap();
         let (intake, delivered) = intake(&[&peer], None);
         let connection = attach(&intake, &peer);
-        let take =
-            |stamp| intake.take(0, &connection, batch(&intake.identity, stamp, &["x"])[0].clone());
+        let take = |stamp| {
+            intake.take(0, 0, &connection, batch(&intake.identity, stamp, &["x"])[0].clone())
+        };
         // It shows messages, so it gets room for them.
-        let report = Report { coverage: Coverage::up_to(1_000), ..Report::default() };
-        intake.hear(0, &connection, &intake.identity.id, report);
+        intake.hear(0, &connection, &intake.identity.id, Report::up_to(1_000));
         intake.fill(0, &connection, usize::MAX, &mut Vec::new());
         // From before the start.
         assert_eq!((take(5).unwrap(), intake.elsewhere()), (Taken::New, 0));
@@ -736,14 +743,15 @@ mod tests {
         let fresh = folder.join(hex::encode(author.id)).with_extension("new");
         std::fs::create_dir(&fresh).unwrap();
         let mut stamps = 1..;
-        let refused =
-            stamps.by_ref().find(|it| intake.take(SECOND * it, &connection, message(*it)).is_err());
+        let refused = stamps
+            .by_ref()
+            .find(|it| intake.take(SECOND * it, 0, &connection, message(*it)).is_err());
         let refused = refused.unwrap();
         assert_eq!(delivered.try_iter().count() as u64, refused - 1);
         assert!(intake.trouble().unwrap().contains(&hex::encode(author.id)));
         std::fs::remove_dir(&fresh).unwrap();
         let now = SECOND * refused;
-        assert_eq!(intake.take(now, &connection, message(refused)).unwrap(), Taken::New);
+        assert_eq!(intake.take(now, 0, &connection, message(refused)).unwrap(), Taken::New);
         assert_eq!((delivered.try_iter().count(), intake.trouble()), (1, None));
         std::fs::remove_dir_all(&folder).unwrap();
     }

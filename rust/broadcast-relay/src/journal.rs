@@ -2,18 +2,20 @@
 //!
 //! So a relay that was killed delivers none again, and still has what is on the lists. When the newer file has as many bytes as the
 //! author's list may have, it becomes the older one: so both together have the whole list, and an author that writes much takes no
-//! other's place. A file begins with what was had of the author before it, and each record has a checksum.
+//! other's place. A file begins with the floor of the author's log, and what is listed that no file would have any more. Each record
+//! has a checksum. A start reads floor and list, and nothing else.
 //!
 //! A message is written by one call before it is printed or passed on; the system is not told to sync. A kill of the process loses
 //! nothing of it, a loss of power may lose the newest messages.
 
-use crate::gossip::{Coverage, Message, Past};
+use crate::gossip::{self, Past, log_with_floor};
 use crate::identity::PeerId;
 use crate::message::{MAX_MESSAGE, Signed, hash};
 use crate::of;
+use broadcast_node::log::{AuthorLog, Message as Entry};
 use bytes::Bytes;
 use hex::FromHex;
-use std::collections::{BTreeSet, VecDeque};
+use std::collections::BTreeSet;
 use std::fs::{self, File, OpenOptions, TryLockError};
 use std::io::{self, ErrorKind, Write};
 use std::os::unix::fs::{DirBuilderExt, FileExt, OpenOptionsExt};
@@ -22,8 +24,8 @@ use std::path::{Path, PathBuf};
 /// Begins each file: what it is, and its version.
 const MAGIC: &[u8; 8] = b"relay\0\0\x03";
 const CHECK: usize = 8;
-/// The head of a file has room for any coverage.
-const HEAD: usize = MAGIC.len() + 8 + 16 * (Coverage::MOST - 1) + CHECK;
+/// The head of a file: what it is, a floor, and zeros, where versions up to 0.5 have what was had above the floor.
+const HEAD: usize = MAGIC.len() + 8 + 16 * 63 + CHECK;
 /// A length and a checksum stand before each message.
 const RECORD: usize = 4 + CHECK;
 
@@ -54,25 +56,11 @@ fn check(parts: &[&[u8]]) -> [u8; CHECK] {
     hash(parts).first_chunk().copied().unwrap_or_default()
 }
 
-/// What is read of files: what was had of an author, and the newest messages, in the order in which they came.
+/// What files have of an author: the floor of its log, and messages, in the order in which they came.
 #[derive(Default)]
 struct Found {
-    covered: Coverage,
-    messages: VecDeque<Signed>,
-    bytes: u64,
-}
-
-impl Found {
-    fn push(&mut self, message: Signed, most: u64) {
-        self.covered.cover(message.prev, message.stamp);
-        self.bytes += message.bytes.len() as u64;
-        self.messages.push_back(message);
-        while self.bytes > most
-            && let Some(oldest) = self.messages.pop_front()
-        {
-            self.bytes -= oldest.bytes.len() as u64;
-        }
-    }
+    floor: u64,
+    messages: Vec<Signed>,
 }
 
 /// The files of one author.
@@ -83,34 +71,48 @@ pub struct Journal {
     file: File,
     len: u64,
     most: u64,
-    /// All that was written to any file.
-    covered: Coverage,
+    /// The floor and the list of what was written to any file. The handle of a message is the number of its file.
+    log: AuthorLog,
+    number: u64,
+}
+
+/// Adds a message of a file to a log.
+fn note(log: &mut AuthorLog, it: &Signed, number: u64) -> io::Result<()> {
+    let (prev, stamp, bytes) = (it.prev, it.stamp, it.bytes.len() as u64);
+    let entry = Entry { prev, stamp, bytes, handle: number };
+    log.arrive(entry, u64::MAX, &mut Vec::new()).map(drop).map_err(io::Error::other)
 }
 
 impl Journal {
-    /// Opens the files of an author, which may have some more than `most` bytes each. Returns besides what was had, and the newest
-    /// messages, whose author has the number 0 until it is listed.
+    /// Opens the files of an author, which may have some more than `most` bytes each. Returns besides what was had, in which the author
+    /// has the number 0 until it is listed.
     pub fn open(folder: &Path, author: &PeerId, most: u64) -> io::Result<(Journal, Past)> {
         let [older, newer] = files(folder, author);
-        let mut found = Found::default();
+        let (mut found, mut in_older) = (Found::default(), 0);
         for path in [&older, &newer] {
+            in_older = found.messages.len();
             if path.exists() {
-                recover(path, &mut found, most).map_err(of(path))?;
+                recover(path, &mut found).map_err(of(path))?;
             }
         }
+        let mut log = log_with_floor(most, found.floor).map_err(io::Error::other)?;
+        for (place, it) in found.messages.iter().enumerate() {
+            note(&mut log, it, u64::from(place >= in_older))?;
+        }
+        found.floor = found.floor.max(log.floor());
+        found.messages.retain(|it| it.stamp > found.floor && log.has(it.stamp));
         let file = private().open(&newer).map_err(of(&newer))?;
         let len = file.metadata()?.len();
-        let covered = found.covered;
-        let mut journal = Journal { older, newer, file, len, most, covered: covered.clone() };
+        let mut journal = Journal { older, newer, file, len, most, log, number: 1 };
         if len == 0 {
-            journal.write(&head(&covered))?;
+            journal.write(&head(found.floor))?;
         }
-        let numbered =
-            |it: Signed| Message { author: 0, stamp: it.stamp, prev: it.prev, bytes: it.bytes };
-        Ok((
-            journal,
-            Past { covered, messages: found.messages.into_iter().map(numbered).collect() },
-        ))
+        let numbered = |it: Signed| {
+            let (stamp, prev, bytes) = (it.stamp, it.prev, it.bytes);
+            gossip::Message { author: 0, stamp, prev, bytes }
+        };
+        let messages = found.messages.into_iter().map(numbered).collect();
+        Ok((journal, Past { floor: found.floor, messages }))
     }
 
     /// Appends messages, all or none.
@@ -118,18 +120,8 @@ impl Journal {
         if self.len >= self.most {
             self.rotate().map_err(of(&self.newer))?;
         }
-        let mut records = Vec::new();
-        for message in messages {
-            let len = (message.bytes.len() as u32).to_be_bytes();
-            records.extend(len);
-            records.extend(check(&[&len, &message.bytes]));
-            records.extend_from_slice(&message.bytes);
-        }
-        self.write(&records)?;
-        for it in messages {
-            self.covered.cover(it.prev, it.stamp);
-        }
-        Ok(())
+        self.write(&records(messages))?;
+        messages.iter().try_for_each(|it| note(&mut self.log, it, self.number))
     }
 
     /// Writes by one call, which a kill of the process leaves whole or undone. What an error leaves of it is cut off.
@@ -146,19 +138,46 @@ impl Journal {
     fn rotate(&mut self) -> io::Result<()> {
         let fresh = self.newer.with_extension("new");
         let file = private().truncate(true).open(&fresh)?;
-        file.write_all_at(&head(&self.covered), 0)?;
+        let bytes = [head(self.log.floor()), records(&self.carried()?)].concat();
+        file.write_all_at(&bytes, 0)?;
         match fs::rename(&self.newer, &self.older) {
             Err(why) if why.kind() != ErrorKind::NotFound => return Err(why),
             _ => fs::rename(&fresh, &self.newer)?,
         }
-        (self.file, self.len) = (file, HEAD as u64);
+        (self.file, self.len, self.number) = (file, bytes.len() as u64, self.number + 1);
         Ok(())
+    }
+
+    /// What is listed and only in the older file, which goes: messages that came long before others of lesser stamps.
+    fn carried(&self) -> io::Result<Vec<Signed>> {
+        let is_older = |it: &Entry| it.handle < self.number;
+        if !(0..self.log.len()).filter_map(|it| self.log.get(it)).any(|it| is_older(&it)) {
+            return Ok(Vec::new());
+        }
+        let mut found = Found::default();
+        if self.older.exists() {
+            parse(&fs::read(&self.older)?, &mut found);
+        }
+        found.messages.retain(|it| self.log.find(it.stamp).is_some_and(|it| is_older(&it)));
+        Ok(found.messages)
     }
 }
 
-fn head(covered: &Coverage) -> Vec<u8> {
+/// The records of messages.
+fn records(messages: &[Signed]) -> Vec<u8> {
+    let mut records = Vec::new();
+    for message in messages {
+        let len = (message.bytes.len() as u32).to_be_bytes();
+        records.extend(len);
+        records.extend(check(&[&len, &message.bytes]));
+        records.extend_from_slice(&message.bytes);
+    }
+    records
+}
+
+fn head(floor: u64) -> Vec<u8> {
     let mut head = MAGIC.to_vec();
-    covered.encode(&mut head);
+    head.extend(floor.to_be_bytes());
     head.resize(HEAD - CHECK, 0);
     let check = check(&[&head]);
     head.extend(check);
@@ -173,16 +192,16 @@ pub fn read(folder: &Path, mut each: impl FnMut(Signed) -> io::Result<()>) -> io
     }
     for file in authors.iter().flat_map(|it| files(folder, it)).filter(|it| it.exists()) {
         let mut found = Found::default();
-        parse(&fs::read(&file).map_err(of(&file))?, &mut found, u64::MAX);
+        parse(&fs::read(&file).map_err(of(&file))?, &mut found);
         found.messages.into_iter().try_for_each(&mut each)?;
     }
     Ok(())
 }
 
 /// Reads a file. What cannot be read is kept aside and cut off, or passed over if it is one record.
-fn recover(path: &Path, found: &mut Found, most: u64) -> io::Result<()> {
+fn recover(path: &Path, found: &mut Found) -> io::Result<()> {
     let bytes = fs::read(path)?;
-    let (whole, wrong) = parse(&bytes, found, most);
+    let (whole, wrong) = parse(&bytes, found);
     let cut = bytes.len() - whole;
     if cut == 0 && wrong == 0 {
         return Ok(());
@@ -197,13 +216,11 @@ fn recover(path: &Path, found: &mut Found, most: u64) -> io::Result<()> {
 }
 
 /// Returns how many bytes of a file are whole records, and how many of these are wrong.
-fn parse(bytes: &[u8], found: &mut Found, most: u64) -> (usize, usize) {
+fn parse(bytes: &[u8], found: &mut Found) -> (usize, usize) {
     let Some(head) = bytes.get(..HEAD).filter(|it| it.starts_with(MAGIC)) else { return (0, 0) };
-    let covered = parse_head(head);
-    for (after, upto) in covered.iter().flat_map(Coverage::runs) {
-        found.covered.cover(after, upto);
-    }
-    let (mut at, mut wrong) = (HEAD, usize::from(covered.is_none()));
+    let floor = parse_head(head);
+    found.floor = found.floor.max(floor.unwrap_or(0));
+    let (mut at, mut wrong) = (HEAD, usize::from(floor.is_none()));
     let mut parsed = (at, wrong);
     // Wrong records at the end may be no records at all. Behind a wrong one, the next may begin anywhere, also within a text of the
     // author: so from there on it counts only with a signature.
@@ -211,7 +228,7 @@ fn parse(bytes: &[u8], found: &mut Found, most: u64) -> (usize, usize) {
     while at < bytes.len() {
         match parse_record(bytes, at).filter(|(it, _)| is_sure || it.is_signed()) {
             Some((message, end)) => {
-                found.push(message, most);
+                found.messages.push(message);
                 at = end;
                 parsed = (at, wrong);
             }
@@ -224,10 +241,10 @@ fn parse(bytes: &[u8], found: &mut Found, most: u64) -> (usize, usize) {
     parsed
 }
 
-fn parse_head(head: &[u8]) -> Option<Coverage> {
+fn parse_head(head: &[u8]) -> Option<u64> {
     let (rest, found) = head.split_last_chunk::<CHECK>()?;
-    let covered = rest.strip_prefix(MAGIC)?;
-    if *found == check(&[rest]) { Coverage::decode(covered) } else { None }
+    let (floor, _) = rest.strip_prefix(MAGIC)?.split_first_chunk()?;
+    (*found == check(&[rest])).then(|| u64::from_be_bytes(*floor))
 }
 
 /// Reads the record at a place. Returns the message, if it is whole, and where the record ends.
@@ -277,12 +294,12 @@ mod tests {
                 journal.append(&message(&author, round * 7 + more)).unwrap();
             }
             if round > 1 {
-                assert!(past.covered.runs().eq([(6, round * 7 - 1)]));
+                assert!(round < 5 || past.floor > 0);
                 assert!(
                     stamps(&past).is_sorted() && stamps(&past).last() == Some(&(round * 7 - 1))
                 );
                 let bytes: usize = past.messages.iter().map(|it| it.bytes.len()).sum();
-                assert!(bytes <= MOST as usize && (round < 5 || bytes >= 9_000), "{bytes}");
+                assert!(bytes <= MOST as usize && (round < 5 || bytes >= 8_500), "{bytes}");
                 let files = fs::read_dir(&folder).unwrap();
                 let bytes: u64 = files.map(|it| it.unwrap().metadata().unwrap().len()).sum();
                 assert!(bytes <= 2 * (MOST + 700), "{bytes}");
@@ -295,18 +312,35 @@ mod tests {
     fn a_kill_within_a_rotation_forgets_nothing() {
         let (folder, author) = (folder("journal-killed"), Identity::generate().unwrap());
         let (mut journal, _) = Journal::open(&folder, &author.id, MOST).unwrap();
-        (1..=100).for_each(|it| journal.append(&message(&author, it)).unwrap());
+        let mut last = 0;
+        while last < 50 || journal.len < MOST {
+            last += 1;
+            journal.append(&message(&author, last)).unwrap();
+        }
         let file = folder.join(hex::encode(author.id));
         // Between the two steps, and with a new file that has no head yet.
         fs::rename(&file, file.with_extension("old")).unwrap();
         let (_, past) = Journal::open(&folder, &author.id, MOST).unwrap();
-        assert!(past.covered.runs().eq([(0, 100)]));
+        let is_whole = |past: &Past, upto| stamps(past).into_iter().eq(past.floor + 1..=upto);
+        assert!(past.floor > last - 16 && is_whole(&past, last));
         fs::write(&file, [0; 20]).unwrap();
         let (mut journal, past) = Journal::open(&folder, &author.id, MOST).unwrap();
-        assert!(past.covered.runs().eq([(0, 100)]));
-        journal.append(&message(&author, 101)).unwrap();
+        assert!(past.floor > last - 16 && is_whole(&past, last));
+        journal.append(&message(&author, last + 1)).unwrap();
         let (_, past) = Journal::open(&folder, &author.id, MOST).unwrap();
-        assert!(past.covered.runs().eq([(0, 101)]));
+        assert!(past.floor > last - 16 && is_whole(&past, last + 1));
+        fs::remove_dir_all(&folder).unwrap();
+    }
+
+    /// It came long before others of lesser stamps, so the file that it was written to is gone.
+    #[test]
+    fn what_is_listed_is_in_a_file() {
+        let (folder, author) = (folder("journal-early"), Identity::generate().unwrap());
+        let (mut journal, _) = Journal::open(&folder, &author.id, MOST).unwrap();
+        journal.append(&message(&author, 1_000)).unwrap();
+        (1..=300).for_each(|it| journal.append(&message(&author, it)).unwrap());
+        let (_, past) = Journal::open(&folder, &author.id, MOST).unwrap();
+        assert!(past.floor > 280 && stamps(&past).contains(&1_000));
         fs::remove_dir_all(&folder).unwrap();
     }
 

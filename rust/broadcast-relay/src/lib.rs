@@ -35,7 +35,7 @@ use gossip::Time;
 use std::io;
 use std::path::Path;
 use std::sync::LazyLock;
-use std::time::Instant;
+use std::time::{Instant, SystemTime, UNIX_EPOCH};
 
 /// Names an error by its file.
 fn of(path: &Path) -> impl FnOnce(io::Error) -> io::Error + use<'_> {
@@ -46,6 +46,11 @@ fn of(path: &Path) -> impl FnOnce(io::Error) -> io::Error + use<'_> {
 fn now() -> Time {
     static START: LazyLock<Instant> = LazyLock::new(Instant::now);
     START.elapsed().as_micros() as Time
+}
+
+/// Nanoseconds since 1970.
+fn clock() -> u64 {
+    SystemTime::now().duration_since(UNIX_EPOCH).unwrap_or_default().as_nanos() as u64
 }
 
 /// What came, or was read, is wrong.

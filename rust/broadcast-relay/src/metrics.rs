@@ -22,11 +22,10 @@ const PATIENCE: Duration = Duration::from_secs(5);
 /// A metric of each node: its name, what it is, of whom, and its value.
 type OfNode = (&'static str, &'static str, &'static str, fn(&Standing) -> u64);
 
-const OF_NODES: [OfNode; 12] = [
+const OF_NODES: [OfNode; 11] = [
     ("connected", "Whether a peer is connected", "peer", |it| it.is_connected.into()),
     ("held", "Whether an author waits for a peer", "author", |it| it.is_held.into()),
     ("stalled", "Whether a peer stands still", "peer", |it| it.is_stalled.into()),
-    ("given_up", "Gaps that were closed", "author", |it| it.given_up),
     ("lost_total", "Gaps nobody can fill", "author", |it| it.lost),
     ("left_behind_total", "Left lists unsent", "peer", |it| it.left_behind),
     ("delivered_total", "New messages", "author", |it| it.counts.delivered),

@@ -4,12 +4,13 @@ use crate::gossip::{Coverage, Report};
 use crate::identity::PeerId;
 use crate::invalid;
 use crate::message::MAX_MESSAGE;
+use broadcast_node::Span;
 use bytes::{Buf, Bytes};
 use std::io;
 use tokio::io::{AsyncRead, AsyncReadExt};
 
 /// The version of the protocol, which each side says first.
-pub const VERSION: u16 = 4;
+pub const VERSION: u16 = 5;
 /// The most bytes of a kind and a body.
 const MAX_PACKET: usize = MAX_MESSAGE + 1;
 
@@ -44,7 +45,10 @@ impl Packet {
                 out.extend(report.room.to_be_bytes());
                 out.extend(report.done.to_be_bytes());
                 out.push(report.is_held.into());
-                report.coverage.encode(out);
+                let spans = report.coverage.spans();
+                out.extend(report.coverage.floor().to_be_bytes());
+                let ends = spans.iter().flat_map(|it| [it.from, it.to]);
+                ends.for_each(|it| out.extend(it.to_be_bytes()));
             }
             Packet::Hello(version) => {
                 out.push(3);
@@ -76,9 +80,19 @@ fn report(mut body: Bytes) -> Option<Packet> {
     body.copy_to_slice(&mut author);
     let [since, room, done] = [(); 3].map(|()| body.get_u64());
     let is_held = body.get_u8();
-    let coverage = Coverage::decode(&body)?;
+    let coverage = coverage(&body)?;
     let report = Report { coverage, since, room, done, is_held: is_held == 1 };
     (is_held < 2).then_some(Packet::Report(author, report))
+}
+
+/// Reads a floor, and the ends of each interval above it. The verified library decides whether they are a coverage.
+fn coverage(bytes: &[u8]) -> Option<Coverage> {
+    let (floor, rest) = bytes.split_first_chunk()?;
+    let (pairs, left) = rest.as_chunks::<16>();
+    let end = |it: &[u8]| u64::from_be_bytes(*it.first_chunk().unwrap_or(&[0; 8]));
+    let spans = pairs.iter().map(|it| Span { from: end(it), to: end(&it[8..]) }).collect();
+    let read = Coverage::reported(u64::from_be_bytes(*floor), spans).ok().flatten();
+    read.filter(|_| left.is_empty())
 }
 
 /// Reads a packet. What is none is [`io::ErrorKind::InvalidData`].
@@ -107,10 +121,8 @@ mod tests {
 
     #[tokio::test]
     async fn a_packet_is_read_back() {
-        let mut coverage = Coverage::up_to(5);
-        for it in 5..=67 {
-            coverage.cover(2 * it, 2 * it + 1);
-        }
+        let spans = (5..=67).map(|it| Span { from: 2 * it, to: 2 * it + 1 }).collect();
+        let coverage = Coverage::reported(5, spans).unwrap().unwrap();
         let report = |coverage, is_held| {
             Packet::Report([1; 32], Report { coverage, since: 7, room: 9, done: 8, is_held })
         };
@@ -118,7 +130,7 @@ mod tests {
             Packet::Beat,
             Packet::Message(vec![9; MAX_MESSAGE].into()),
             report(coverage, true),
-            report(Coverage::default(), false),
+            report(Coverage::new(0).unwrap(), false),
             Packet::Hello(VERSION),
         ] {
             let bytes = bytes_of(&packet);
@@ -130,8 +142,7 @@ mod tests {
 
     #[tokio::test]
     async fn what_is_no_packet_is_invalid() {
-        let report = Report { coverage: Coverage::up_to(5), ..Report::default() };
-        let report = Packet::Report([1; 32], report);
+        let report = Packet::Report([1; 32], Report::up_to(5));
         let mut many = bytes_of(&report);
         (5..=68_u64)
             .for_each(|it| many.extend([2 * it, 2 * it + 1].map(u64::to_be_bytes).concat()));

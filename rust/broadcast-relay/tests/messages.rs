@@ -41,7 +41,9 @@ fn no_peer_speaks_in_anothers_name() {
     let names = ["other", "first", "last", "key", "stamp", "prev", "text"];
     let (mut relay, peers) = relay_and("forged", "", names);
     let (other, stamp) = (&peers[0], now());
-    let said = frame(1, &other.message_after(stamp - 1_000_000_000, stamp, b"said"));
+    // One of them is the stamp before that is changed below.
+    let said = [(stamp ^ 1 << 24, "before"), (stamp, "said")];
+    let said = said.map(|(stamp, text)| frame(1, &other.message(stamp, text.as_bytes()))).concat();
     send_until(other, &relay, &said, "the message", || relay.has_printed("other", "said"));
     for ((at, name), hostile) in changes.into_iter().zip(&peers[1..]) {
         // It goes on where something was had, else it would be left out before its signature is checked.
@@ -57,7 +59,7 @@ fn no_peer_speaks_in_anothers_name() {
     let said = frame(1, &other.message_after(stamp, stamp + 1_000, b"said too"));
     send_until(&peers[1], &relay, &said, "the ban ends", || relay.has_printed("other", "said too"));
     let printed = relay.counted();
-    assert_eq!(printed.len(), 2, "{printed:?}");
+    assert_eq!(printed.len(), 3, "{printed:?}");
     assert!(printed.values().all(|it| *it == 1));
     assert!(relay.terminate());
 }

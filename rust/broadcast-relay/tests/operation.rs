@@ -380,7 +380,7 @@ fn what_is_lost_is_counted_and_logged() {
     let words = ["it stands still", "what it lacks leaves"];
     wait_for("warnings", || words.iter().all(|it| author.log().contains(it)));
     relays[0].signal("-CONT");
-    wait_for("the loss", || relays[0].metric("relay_lost_total{author=\"r0\"}") == 1.0);
+    wait_for("the loss", || relays[0].metric("relay_lost_total{author=\"r0\"}") > 0.0);
     wait_for("a warning", || relays[0].log().contains("no connected peer has it any more"));
     wait_for("it moves", || author.metric("relay_stalled{peer=\"r1\"}") == 0.0);
     wait_for("its end", || author.log().contains("does not stand still any more"));

@@ -1,26 +1,29 @@
 //! One author's log, and all that is decided for it: who is waited for, who feeds this relay, who is to get a report.
 
+use super::kept::{Kept, top};
 use super::links::{Link, Links};
 use super::pace::{Patience, Wait};
 use super::session::Session;
 use super::view::View;
-use super::{Bounds, Bucket, Coverage, List, Message, NEVER, Report, SECOND, Time};
+use super::{Bounds, Bucket, Coverage, Message, NEVER, Past, Report, SECOND, Time};
+use broadcast_node::log::Arrived;
+use std::collections::BTreeMap;
+
+/// How many of the stamps are known that a log lacks, and that may be lost.
+const MOST_LACKING: usize = 64;
 
 #[derive(Debug)]
 pub struct Log {
     author: usize,
     pub is_listed: bool,
-    pub covered: Coverage,
-    /// How many gaps of it were closed; and how many gaps there were that nobody could fill any more.
-    pub given_up: u64,
+    pub kept: Kept,
+    /// The stamps of messages that never came, though a message names them or a peer had them; and since when no connected peer can send
+    /// each of them. How many of them are lost. When the author was last connected.
+    lacking: BTreeMap<u64, Time>,
     pub lost: u64,
-    /// What is lacking up to here nobody can send; that may be so up to there, since when; and when the author was last connected.
-    lost_upto: u64,
-    losing: Option<(Time, u64)>,
     seen: Time,
     /// Some peer is not waited for any more.
     pub has_stalled: bool,
-    pub list: List,
     bounds: Bounds,
     pub bucket: Bucket,
     pub views: Vec<View>,
@@ -30,8 +33,6 @@ pub struct Log {
     brought: Time,
     /// Since when others show something that is missing here, and its stamp.
     short: Option<(Time, u64)>,
-    /// Since when a message is left out that would need one interval too many, and the oldest gap was not filled in part.
-    full: Option<Time>,
     /// A peer is waited for; and how many bytes are left until one is.
     pub is_held: bool,
     left: u64,
@@ -50,14 +51,11 @@ impl Log {
         Log {
             author,
             is_listed: true,
-            covered: Coverage::default(),
-            given_up: 0,
+            kept: Kept::new(author, bounds.list, 0),
+            lacking: BTreeMap::new(),
             lost: 0,
-            lost_upto: 0,
-            losing: None,
             seen: now,
             has_stalled: false,
-            list: List::new(bounds.list),
             bounds: bounds.clone(),
             bucket: Bucket::new(bounds.rate, bounds.burst),
             views: Vec::new(),
@@ -65,7 +63,6 @@ impl Log {
             granted: 0,
             brought: 0,
             short: None,
-            full: None,
             is_held: false,
             left: bounds.behind,
             patience: Patience::new(bounds.patience),
@@ -82,7 +79,7 @@ impl Log {
 
     pub fn connect(&mut self, peer: usize, links: &mut Links) {
         let view = &mut self.views[peer];
-        view.session = Session::new(self.covered.top());
+        view.session = Session::new(self.kept.top());
         view.ahead = 0;
         self.queue_report(peer, links);
     }
@@ -109,9 +106,35 @@ impl Log {
         (view.past, view.is_stalled, view.is_waited_for) = (None, false, false);
     }
 
+    /// Begins with what was had before.
+    pub fn restore(&mut self, past: Past) {
+        self.is_listed = true;
+        self.kept.restore(past);
+    }
+
+    /// Neither accepts nor keeps anything any more.
+    pub fn remove(&mut self) {
+        (self.is_listed, self.wake) = (false, NEVER);
+        self.kept.clear();
+    }
+
     /// Replaces a peer's report.
     pub fn hear(&mut self, now: Time, peer: usize, report: Report) {
-        self.views[peer].hear(now, report, &self.list, self.bounds.pace);
+        if !self.kept.has(report.since) {
+            self.note_lacking(report.since);
+        }
+        self.views[peer].hear(now, report, &self.kept, self.bounds.pace);
+    }
+
+    /// Notes a stamp that did not come. What is before the first that came was before this relay's time.
+    fn note_lacking(&mut self, stamp: u64) {
+        let first = match self.kept.floor() {
+            0 => self.kept.get(0).map_or(u64::MAX, |it| it.stamp),
+            floor => floor,
+        };
+        if stamp > first && self.lacking.len() < MOST_LACKING {
+            self.lacking.entry(stamp).or_insert(NEVER);
+        }
     }
 
     /// Lets messages be sent to a peer.
@@ -131,53 +154,55 @@ impl Log {
         }
     }
 
-    /// Whether a message of a peer is taken. A peer without room may only go on where something was had, and the author say what it
-    /// likes.
-    pub fn wants(&self, now: Time, peer: usize, it: &Message) -> bool {
+    /// Whether a message of a peer is accepted, if its stamp is not later than `latest`. A peer without room may only go on where
+    /// something was had, and the author say what it likes.
+    pub fn wants(&self, now: Time, peer: usize, it: &Message, latest: u64) -> bool {
         let has_room = self.views[peer].session.allowed >= it.size();
-        let goes_on = peer == self.author || self.covered.covers(it.prev);
+        let goes_on = peer == self.author || (it.prev > 0 && self.kept.has(it.prev));
         self.is_listed
-            && !self.covered.covers(it.stamp)
-            && self.fits(it)
+            && it.stamp <= latest
+            && !self.kept.has(it.stamp)
             && (has_room || (goes_on && self.bucket.level(now) > 0))
     }
 
-    /// Notes a message that is left out.
-    pub fn leave_out(&mut self, now: Time, peer: usize, it: &Message) {
-        if !self.fits(it) {
-            self.wake = self.wake.min(*self.full.get_or_insert(now) + self.bounds.somebody);
-        }
+    /// Notes a message that is left out. Its sender is told soon, and may send it again.
+    pub fn leave_out(&mut self, now: Time, peer: usize) {
         let session = &mut self.views[peer].session;
         session.has_left_out = true;
         session.lazy_due = session.lazy_due.min(now + self.bounds.lazy);
         self.wake = self.wake.min(session.lazy_due);
     }
 
-    /// Takes a new message: covers it, lists it, and sees who is to get it or hear of it. Returns whether a step is due.
-    pub fn take(&mut self, now: Time, from: Option<usize>, it: Message, links: &mut Links) -> bool {
-        let (stamp, size) = (it.stamp, it.size());
-        if self.full.is_some() && self.covered.oldest_gap().is_some_and(|gap| stamp <= gap.1) {
-            self.full = Some(now);
+    /// Accepts a message, lists it, and sees who is to get it or hear of it. Returns what became of it, and whether a step is due.
+    pub fn accept(
+        &mut self,
+        now: Time,
+        from: Option<usize>,
+        (it, latest): (Message, u64),
+        links: &mut Links,
+    ) -> (Arrived, bool) {
+        let (prev, stamp, size) = (it.prev, it.stamp, it.size());
+        let (arrived, gone) = self.kept.arrive(it, latest);
+        if !matches!(arrived, Arrived::Listed | Arrived::Passed) {
+            return (arrived, false);
         }
-        self.given_up += u64::from(self.covered.cover(it.prev, stamp));
-        for gone in self.list.insert(it) {
-            let lacks = |peer: &usize| self.had(*peer, links).is_some_and(|it| !it.covers(gone));
-            let peers: Vec<usize> = (0..self.views.len()).filter(lacks).collect();
-            let left = peers.into_iter().filter(|it| !self.views[*it].session.flies(gone));
-            left.for_each(|it| links.left_behind[it] += 1);
-        }
+        self.note_arrived(prev, stamp, &gone, links);
         self.patience.renew(now, size, self.bounds.pace);
         let is_fed = from.is_some() && self.feeder == from;
         if is_fed {
             self.note_brought(now, stamp, size);
         }
+        if arrived == Arrived::Passed {
+            return (arrived, false);
+        }
+        from.into_iter().for_each(|it| self.views[it].session.note_brought(stamp, size));
         let mut ahead = None;
         for peer in 0..self.views.len() {
             if !links.each[peer].is_connected {
                 continue;
             }
             let view = &mut self.views[peer];
-            let has = view.session.covers(stamp);
+            let has = view.session.has(stamp);
             if is_fed && from != Some(peer) && view.compare(now, has) {
                 ahead = Some(peer);
             }
@@ -186,9 +211,36 @@ impl Log {
         self.unchecked += size;
         if ahead.is_some() && self.feeder != Some(self.author) {
             self.feed_from(now, ahead, links);
-            return true;
+            return (arrived, true);
         }
-        self.unchecked >= self.bounds.behind / 16
+        (arrived, self.unchecked >= self.bounds.behind / 16)
+    }
+
+    /// Counts what a message that came leaves lost here or at peers: what left the list for it, and what is below the floor now.
+    fn note_arrived(&mut self, prev: u64, stamp: u64, gone: &[u64], links: &mut Links) {
+        self.lacking.retain(|it, _| *it <= prev || *it > stamp);
+        if !self.kept.has(prev) {
+            self.note_lacking(prev);
+        }
+        for &gone in gone {
+            let lacks = |it: &usize| {
+                let session = &self.views[*it].session;
+                self.had(*it, links).is_some_and(|it| !it.has(gone))
+                    && session.theirs.as_ref().is_none_or(|_| !session.has(gone))
+                    && !session.flies(gone)
+            };
+            let peers: Vec<usize> = (0..self.views.len()).filter(lacks).collect();
+            peers.into_iter().for_each(|it| links.left_behind[it] += 1);
+        }
+        let floor = self.kept.floor();
+        self.lose(|stamp, _| stamp <= floor);
+    }
+
+    /// Counts what is lacking and cannot come any more as lost.
+    fn lose(&mut self, is_lost: impl Fn(u64, Time) -> bool) {
+        let before = self.lacking.len();
+        self.lacking.retain(|stamp, since| !is_lost(*stamp, *since));
+        self.lost += (before - self.lacking.len()) as u64;
     }
 
     /// The feeder brought something new. What is below the missing stamp shows that it is on its way there, and not slow.
@@ -209,7 +261,9 @@ impl Log {
         (stamp, size, has): (u64, u64, bool),
         links: &mut Links,
     ) {
-        let join = self.bounds.join * (1 + self.covered.gaps() as u64 / 2);
+        let gaps =
+            self.views[peer].session.theirs.as_ref().map_or(0, |it| it.coverage.spans().len());
+        let join = self.bounds.join * (1 + gaps as u64 / 2);
         let session = &mut self.views[peer].session;
         let (may_send, is_news) = session.note(stamp, size, has);
         if is_news && session.news_due == NEVER {
@@ -220,7 +274,7 @@ impl Log {
         session.lazy_due = session.lazy_due.min(now + self.bounds.lazy);
         self.wake = self.wake.min(session.wake());
         let most = match self.feeder == Some(peer) {
-            true => session.ours.room.min(self.bounds.room) / 4,
+            true => session.room.min(self.bounds.room) / 4,
             false => self.bounds.behind / 4,
         };
         let is_due = session.unreported >= most;
@@ -236,64 +290,33 @@ impl Log {
     pub fn step(&mut self, now: Time, links: &mut Links) {
         (self.wake, self.unchecked) = (NEVER, 0);
         self.settle(now, links);
-        self.give_up(now);
         self.hold(now, links);
         self.choose(now, links);
         self.grant(now, links);
         self.report(now, links);
     }
 
-    /// Sees what nobody can send any more: all that lay for a while below the lists of all peers that report this author. While the
-    /// author may come back, it is given time.
+    /// Sees what cannot come any more: what for a while no connected peer can send. While the author may come back, it has time to.
     fn settle(&mut self, now: Time, links: &Links) {
-        // Who is barred does not bring what it shows.
-        let views = || links.others(None).map(|it| &self.views[it]);
-        let free = || views().filter(|it| it.bar.until(now).is_none());
-        let reports = || free().filter_map(|it| it.session.theirs.as_ref());
-        let low = reports().map(|it| it.since).min().map_or(0, |it| it.min(self.covered.top()));
-        if low <= self.lost_upto {
-            self.losing = None;
+        if self.lacking.is_empty() {
             return;
         }
-        let (since, low) = self.losing.map_or((now, low), |it| (it.0, it.1.min(low)));
         let has_come = links.each[self.author].has_reported;
         let wait = match has_come || now >= self.seen + self.bounds.somebody {
             true => self.bounds.nobody,
             false => self.bounds.somebody,
         };
-        self.losing = Some((since, low));
-        if now < since + wait {
-            self.wake = self.wake.min(since + wait);
-            return;
+        // Who is barred does not bring what it shows.
+        let views = links.others(None).map(|it| &self.views[it]);
+        let free = views.filter(|it| it.bar.until(now).is_none());
+        let reports: Vec<_> = free.filter_map(|it| it.session.theirs.as_ref()).collect();
+        for (stamp, since) in &mut self.lacking {
+            let can_send = |it: &&Report| it.since < *stamp && it.coverage.has(*stamp);
+            let can_come = reports.is_empty() || reports.iter().any(can_send);
+            *since = if can_come { NEVER } else { now.min(*since) };
+            self.wake = self.wake.min(since.saturating_add(wait));
         }
-        // What is below the first interval was before this relay's time.
-        let mut above = self.covered.runs().next().map_or(low, |it| it.1).max(self.lost_upto);
-        while let Some(stamp) =
-            reports().filter_map(|it| self.covered.first_missing(&it.coverage, above, low)).min()
-        {
-            self.lost += 1;
-            let behind = self.covered.runs().map(|it| it.0).find(|it| *it >= stamp);
-            above = behind.unwrap_or(low);
-        }
-        (self.lost_upto, self.losing) = (low, None);
-    }
-
-    /// Gives up the oldest gap, if a message waited long for its interval and the gap was not filled in part.
-    fn give_up(&mut self, now: Time) {
-        let (Some(since), Some((_, upto))) = (self.full, self.covered.oldest_gap()) else { return };
-        if self.covered.gaps() + 1 < Coverage::MOST {
-            self.full = None;
-        } else if now < since + self.bounds.somebody {
-            self.wake = self.wake.min(since + self.bounds.somebody);
-        } else {
-            (self.lost_upto, self.full) = (self.lost_upto.max(upto), None);
-        }
-    }
-
-    /// Whether a message needs no interval too many: the oldest gap is closed for it if nobody can fill that.
-    fn fits(&self, it: &Message) -> bool {
-        let is_lost = |gap: (u64, u64)| gap.1 <= self.lost_upto;
-        self.covered.fits(it.prev, it.stamp) || self.covered.oldest_gap().is_some_and(is_lost)
+        self.lose(|_, since| since.saturating_add(wait) <= now);
     }
 
     /// Decides which peers are waited for.
@@ -329,9 +352,10 @@ impl Log {
         self.has_stalled = self.views.iter().any(|it| it.is_stalled);
     }
 
-    /// The bytes of the list that a peer lacks, as far as is known.
+    /// What the listed messages are charged that a peer lacks, as far as is known.
     pub fn lacks(&self, peer: usize, links: &Links) -> u64 {
-        self.had(peer, links).map_or(0, |it| self.list.lacking(it))
+        let lag = self.had(peer, links).map_or(0, |it| self.kept.lag(it));
+        lag.saturating_sub(self.views[peer].session.brought)
     }
 
     /// What a peer has: by its report, or when its last connection ended. Until it has reported all that it lists, it may list this author
@@ -359,7 +383,7 @@ impl Log {
         // While the author is at the end of its rate nobody is judged.
         let is_judged = self.bucket.level(now) >= self.bounds.room;
         self.short = match (missing, self.short) {
-            (Some(_), Some(short)) if is_judged && !self.covered.covers(short.1) => Some(short),
+            (Some(_), Some(short)) if is_judged && self.lacks_still(short.1) => Some(short),
             (Some(stamp), _) if is_judged => Some((now, stamp)),
             _ => None,
         };
@@ -394,6 +418,7 @@ impl Log {
         let mut missing = None;
         for peer in links.others(Some(feeder)) {
             let Some(stamp) = self.shown(peer) else { continue };
+            self.note_lacking(stamp);
             match self.views[peer].bar.until(now) {
                 Some(end) => self.wake = self.wake.min(end),
                 None => missing = Some(missing.map_or(stamp, |it: u64| it.min(stamp))),
@@ -402,18 +427,25 @@ impl Log {
         missing
     }
 
+    /// Whether a stamp that a peer showed is not in the report still.
+    fn lacks_still(&mut self, stamp: u64) -> bool {
+        !self.kept.report().has(stamp)
+    }
+
     /// The least stamp that a peer shows and that is wanted.
-    fn shown(&self, peer: usize) -> Option<u64> {
-        let limit = if self.is_held { self.covered.top() } else { u64::MAX };
-        self.views[peer].session.shows(&self.covered, limit)
+    fn shown(&mut self, peer: usize) -> Option<u64> {
+        let report = self.kept.report();
+        let limit = if self.is_held { top(report) } else { u64::MAX };
+        self.views[peer].session.shows(report, limit)
     }
 
     /// The best of those that show something; if none does, the author unless it is barred. Barred ones come last, the soonest free
     /// first.
-    fn best(&self, now: Time, but: Option<usize>, links: &Links) -> Option<usize> {
+    fn best(&mut self, now: Time, but: Option<usize>, links: &Links) -> Option<usize> {
         let ranks = links.others(but).map(|peer| {
+            let shows = self.shown(peer).is_some();
             let View { bar, ahead, .. } = &self.views[peer];
-            let (shows, until) = (self.shown(peer).is_some(), bar.until(now).unwrap_or(0));
+            let until = bar.until(now).unwrap_or(0);
             let rank = (bar.failures, u32::MAX - ahead, links.each[peer].round_trip, peer);
             (!shows, until, peer != self.author, rank)
         });
@@ -448,21 +480,20 @@ impl Log {
         if room == 0 {
             self.wake = self.wake.min(self.bucket.when(now, self.bounds.burst / 8));
         }
-        let known = &self.views[feeder].session.ours;
-        if (known.room == 0) != (room == 0) || known.is_held != self.is_held {
+        let known = &self.views[feeder].session;
+        if (known.room == 0) != (room == 0) || known.is_told_held != self.is_held {
             self.queue_report(feeder, links);
         }
     }
 
     /// Sees who is to get a report now.
     fn report(&mut self, now: Time, links: &mut Links) {
-        let current = self.current(0);
         for peer in 0..self.views.len() {
             if !links.each[peer].is_connected {
                 continue;
             }
             let session = &mut self.views[peer].session;
-            let is_due = session.is_report_due(now, &current, self.bounds.lazy);
+            let is_due = session.is_report_due(now, &self.kept, self.is_held, self.bounds.lazy);
             self.wake = self.wake.min(session.wake());
             if is_due {
                 self.queue_report(peer, links);
@@ -470,21 +501,16 @@ impl Log {
         }
     }
 
-    fn current(&self, room: u64) -> Report {
-        let (coverage, since) = (self.covered.clone(), self.list.since());
-        Report { coverage, since, room, done: 0, is_held: self.is_held }
-    }
-
     /// The report for a peer, which is sent now.
     pub fn report_to(&mut self, now: Time, peer: usize) -> Report {
-        let room = self.room(now, peer);
-        let session = &self.views[peer].session;
-        let report = Report { done: session.came, ..self.current(room) };
+        let (room, is_held, since) = (self.room(now, peer), self.is_held, self.kept.floor());
         let session = &mut self.views[peer].session;
+        let (coverage, done) = (self.kept.report().clone(), session.came);
+        let report = Report { coverage, since, room, done, is_held };
         if room > 0 {
             session.allowed = self.bounds.room + self.bounds.largest;
         }
-        session.report(&report);
+        session.report(&report, self.kept.count);
         report
     }
 }

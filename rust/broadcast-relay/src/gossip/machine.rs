@@ -2,13 +2,15 @@
 
 use super::links::{Link, Links};
 use super::log::Log;
-use super::{Bounds, Coverage, Frame, List, Malformed, Message, NEVER, Report, SECOND, Time};
+use super::view::View;
+use super::{Bounds, Frame, Malformed, Message, NEVER, Report, SECOND, Time};
+use broadcast_node::log::Arrived;
 use bytes::Bytes;
 
-/// What is known of an author from before a start.
+/// What is known of an author from before a start: a floor, up to which all counts as had, and messages.
 #[derive(Clone, Debug, Default)]
 pub struct Past {
-    pub covered: Coverage,
+    pub floor: u64,
     pub messages: Vec<Message>,
 }
 
@@ -48,6 +50,8 @@ pub struct Machine {
     own: usize,
     /// The stamp of the last own message, if it is known.
     last: Option<u64>,
+    /// No stamp above it is accepted of others.
+    latest: u64,
     start: Start,
     logs: Vec<Log>,
     links: Links,
@@ -58,7 +62,7 @@ impl Machine {
     /// Creates a relay that is the node `own`. Other relays have another `spread`.
     pub fn new(bounds: Bounds, own: usize, spread: u64) -> Machine {
         let (last, start, logs, links) = (None, Start::default(), Vec::new(), Links::default());
-        Machine { bounds, own, last, start, logs, links, spread }
+        Machine { bounds, own, last, latest: u64::MAX, start, logs, links, spread }
     }
 
     /// Adds a node. Returns its number.
@@ -77,16 +81,9 @@ impl Machine {
     /// Lists an author, from now on or again. What was had of it before stays had.
     pub fn restore(&mut self, now: Time, node: usize, past: Past) {
         let log = &mut self.logs[node];
-        log.is_listed = true;
-        for (after, upto) in past.covered.runs() {
-            log.covered.cover(after, upto);
-        }
-        for message in past.messages {
-            log.covered.cover(message.prev, message.stamp);
-            log.list.insert(message);
-        }
-        if node == self.own && log.covered.top() > 0 {
-            self.last = Some(log.covered.top());
+        log.restore(past);
+        if node == self.own && log.kept.top() > 0 {
+            self.last = Some(log.kept.top());
         }
         let peers: Vec<usize> = self.links.others(None).collect();
         for peer in peers {
@@ -100,10 +97,8 @@ impl Machine {
         self.disconnect(now, node);
         let count = self.logs.len();
         let log = &mut self.logs[node];
-        log.is_listed = false;
-        log.list = List::new(self.bounds.list);
-        log.wake = NEVER;
         (0..count).for_each(|peer| log.disconnect(now, peer));
+        log.remove();
         // It is waited for no more.
         self.logs.iter_mut().for_each(|it| it.forget(node));
     }
@@ -138,7 +133,7 @@ impl Machine {
     pub fn may_publish(&self) -> bool {
         let log = &self.logs[self.own];
         let is_alone = self.start.is_late && self.start.met.is_none();
-        let has_room = is_alone && log.list.bytes() < self.bounds.behind;
+        let has_room = is_alone && log.kept.bytes() < self.bounds.behind;
         !log.is_held && (self.start.is_over || has_room)
     }
 
@@ -148,14 +143,16 @@ impl Machine {
         if self.start.is_over {
             return;
         }
-        let (own, patience) = (&self.logs[self.own], self.bounds.patience);
+        let patience = self.bounds.patience;
         let peers: Vec<usize> = self.listed().into_iter().filter(|it| *it != self.own).collect();
         let has_reported = |it: &&usize| self.links.each[**it].has_reported;
         let count = peers.iter().filter(has_reported).count();
         // Who is barred has claimed what it does not bring.
-        let is_behind = own.views.iter().any(|it| {
-            it.bar.until(now).is_none() && it.session.shows(&own.covered, u64::MAX).is_some()
-        });
+        let own = &mut self.logs[self.own];
+        let report = own.kept.report();
+        let shows = |it: &View| it.session.shows(report, u64::MAX).is_some();
+        let is_claimed = |it: &View| it.bar.until(now).is_none() && shows(it);
+        let is_behind = own.views.iter().any(is_claimed);
         let start = &mut self.start;
         let began = *start.began.get_or_insert(now);
         if count > 0 {
@@ -175,7 +172,7 @@ impl Machine {
     /// The interval of the next own message, by the time of a clock. After a start without a journal the first message covers nothing
     /// that peers may lack.
     pub fn next_own(&self, clock: u64) -> (u64, u64) {
-        let top = self.logs[self.own].covered.top();
+        let top = self.logs[self.own].kept.top();
         let stamp = clock.max(top + 1);
         (if self.last == Some(top) { top } else { stamp - 1 }, stamp)
     }
@@ -183,12 +180,17 @@ impl Machine {
     /// Publishes an own message, whose interval is that of `next_own`.
     pub fn publish(&mut self, now: Time, prev: u64, stamp: u64, bytes: Bytes) {
         self.last = Some(stamp);
-        self.accept(now, None, Message { author: self.own, stamp, prev, bytes });
+        self.accept(now, None, Message { author: self.own, stamp, prev, bytes }, u64::MAX);
+    }
+
+    /// From now on no stamp above this one is accepted of others.
+    pub fn set_latest(&mut self, latest: u64) {
+        self.latest = latest;
     }
 
     /// Whether a message of a peer is taken, if its signature holds. Else that is not worth a check.
     pub fn wants(&self, now: Time, peer: usize, message: &Message) -> bool {
-        self.logs[message.author].wants(now, peer, message)
+        self.logs[message.author].wants(now, peer, message, self.latest)
     }
 
     /// Takes a message of a peer, if it was wanted since another message of its author came. Its signature holds then. It is of no
@@ -207,23 +209,34 @@ impl Machine {
         if !log.is_listed {
             return Ok(Taken::Unlisted);
         }
-        if let Some(peer) = from {
-            log.views[peer].session.note_came(&message);
+        let (stamp, size) = (message.stamp, message.size());
+        let session = from.map(|it| &mut log.views[it].session);
+        if let Some(session) = session {
+            session.note_came(size);
+            if log.kept.has(stamp) {
+                session.note_brought(stamp, size);
+            }
         }
-        if log.covered.covers(message.stamp) {
+        if log.kept.has(stamp) {
             return Ok(Taken::Again);
         }
         if !was_wanted {
-            from.into_iter().for_each(|it| log.leave_out(now, it, &message));
+            // What is too far in the future is not to be sent again soon.
+            let from = from.filter(|_| stamp <= self.latest);
+            from.into_iter().for_each(|it| log.leave_out(now, it));
             return Ok(Taken::LeftOut);
         }
-        log.bucket.charge(now, message.size().max(self.bounds.least));
+        log.bucket.charge(now, size.max(self.bounds.least));
         let is_own = message.author == self.own;
-        self.accept(now, from, message);
+        let taken = match self.accept(now, from, message, self.latest) {
+            Arrived::Listed | Arrived::Passed => Taken::New,
+            Arrived::Refused => Taken::Again,
+            _ => Taken::LeftOut,
+        };
         if is_own {
             self.begin(now);
         }
-        Ok(Taken::New)
+        Ok(taken)
     }
 
     /// Takes a peer's report of an author.
@@ -285,7 +298,7 @@ impl Machine {
         while let Some(author) = self.links.each[peer].turns.pop_front() {
             let log = &mut self.logs[author];
             let session = &mut log.views[peer].session;
-            if let Some(message) = session.next(&log.list, &self.bounds) {
+            if let Some(message) = session.next(&log.kept, &self.bounds) {
                 self.links.push_turn(peer, author);
                 return Some(Frame::Message(message));
             }
@@ -314,11 +327,14 @@ impl Machine {
         self.logs[self.own].lacks(peer, &self.links) > 0
     }
 
-    fn accept(&mut self, now: Time, from: Option<usize>, message: Message) {
+    fn accept(&mut self, now: Time, from: Option<usize>, message: Message, latest: u64) -> Arrived {
         let author = message.author;
-        if self.logs[author].take(now, from, message, &mut self.links) {
+        let log = &mut self.logs[author];
+        let (arrived, is_due) = log.accept(now, from, (message, latest), &mut self.links);
+        if is_due {
             self.step(now, author);
         }
+        arrived
     }
 
     fn step(&mut self, now: Time, author: usize) {

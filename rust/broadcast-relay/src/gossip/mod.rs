@@ -1,9 +1,13 @@
 //! Replication of authors' logs between relays, driven by the receiver.
 //!
-//! Each message of an author covers an interval `(prev, stamp]` of the author's time line. A relay reports to each peer, for each
-//! author, which stamps it has had (its *coverage*) and how many more bytes it takes now (its *room*). A report is the newest state
-//! and replaces older ones, so reports may be late, joined or repeated. A relay sends a peer the message of the smallest stamp that
-//! the peer lacks, that is not in flight and fits the room, authors in turn.
+//! Of each author a relay keeps the newest messages that fit a budget, in whatever order, how often and from whomever they come: the
+//! *log* of the verified library, which decides what is listed, what is reported, what a peer is sent next, and how far a peer is
+//! behind. This module decides *when*: it has timers, rooms, holds and queues, and no list of its own.
+//!
+//! A message covers an interval `(prev, stamp]` of its author's time line. A relay reports to each peer, for each author, what its
+//! log covers, in at most 64 intervals from below, and how many more bytes it takes now (its *room*). A report is the newest state
+//! and replaces older ones, so reports may be late, joined or repeated. What a peer reports decides only what it is sent, and whom
+//! a relay lets bring what it lacks.
 //!
 //! - **Feeder.** Of each author one peer at a time has room, so a message comes once. A feeder that does not bring what others
 //!   report is replaced, and barred for a while if it had reported the message itself.
@@ -11,31 +15,39 @@
 //!   relay reads no input, and others report that they want nothing above the top of their coverage. A gap can always be filled,
 //!   so relays never wait for each other in a circle.
 //! - **Patience.** A peer is waited for as long as its patience lasts, which waiting uses up and what it takes renews.
-//! - **Left out.** A message that would need one interval too many is left out, uncovered, and so is one of a peer without room that
-//!   does not go on where something was had. The peer sees from `done` that it was left out, and may send it again.
+//! - **Left out.** A message of a peer without room that does not go on where something was had is left out, and so is one that is
+//!   above its author's rate, or whose stamp is too far in the future. The peer sees from `done` that it was left out, and may send
+//!   it again.
 //! - **First reports.** A connection begins with a report of each listed author. The own log is last, so its report shows that the
 //!   peer lists nobody else. Until then the peer is waited for as if it listed each author, and had it up to that time.
 //!
 //! Nothing here has a clock: times are arguments. Nothing is shared between authors but a peer's turns.
 
-mod coverage;
+mod kept;
 mod links;
-mod list;
 mod log;
 mod machine;
 mod pace;
 mod session;
 mod view;
 
-pub use coverage::Coverage;
-pub use list::{List, OVERHEAD};
+pub use kept::{Kept, log_with_floor, top};
 pub use log::Log;
 pub use machine::{Machine, Past, Taken};
 pub use pace::{Bar, Bucket};
 
-use broadcast_node::Listed;
+pub use broadcast_node::Coverage;
+pub use broadcast_node::log::CHARGE;
+
+use broadcast_node::Error;
+use broadcast_node::log::AuthorLog;
 use bytes::Bytes;
 use std::fmt;
+
+/// Returns an error if the verified library is not there. Nothing else of this module may be called then.
+pub fn check() -> Result<(), Error> {
+    AuthorLog::new(0).map(drop)
+}
 
 /// Microseconds of any clock that does not run backwards.
 pub type Time = u64;
@@ -45,13 +57,13 @@ pub const SECOND: Time = 1_000_000;
 /// The bounds of the protocol. Needed: `behind + room + largest <= list` and `room <= burst / 8`.
 #[derive(Clone, Debug)]
 pub struct Bounds {
-    /// The most bytes of an author's list.
+    /// The most bytes of an author's list, with what each message is charged. It is the same in all relays of a network.
     pub list: u64,
     /// By how many bytes of a list a peer may be behind before it is waited for.
     pub behind: u64,
     /// The most bytes of an author in flight to a peer. A sender may go beyond it by one message.
     pub room: u64,
-    /// The most bytes of a message, with its overhead.
+    /// The most bytes of a message, with what it is charged.
     pub largest: u64,
     /// The bytes of an author that are taken in a second, and at once.
     pub rate: u64,
@@ -67,8 +79,7 @@ pub struct Bounds {
     /// How long a feeder may bring nothing, and how long a message may be lacking, while others report it.
     pub idle: Time,
     pub slow: Time,
-    /// After what time is lost what no peer can send, if the author is connected or was not for long; and else. So long a message waits
-    /// for the interval of the oldest gap, too, that somebody can fill.
+    /// After what time is lost what no peer can send, if the author is connected or was not for long; and else.
     pub nobody: Time,
     pub somebody: Time,
 }
@@ -115,17 +126,14 @@ pub struct Message {
 impl Message {
     /// What it counts wherever bytes are counted.
     pub fn size(&self) -> u64 {
-        self.bytes.len() as u64 + OVERHEAD
-    }
-
-    fn listed(&self) -> Listed {
-        Listed { prev: self.prev, stamp: self.stamp, bytes: self.size() }
+        self.bytes.len() as u64 + CHARGE
     }
 }
 
 /// The newest state of an author's log at a relay.
-#[derive(Clone, Debug, Default, PartialEq, Eq)]
+#[derive(Clone, Debug, PartialEq, Eq)]
 pub struct Report {
+    /// What its log covers, cut off above.
     pub coverage: Coverage,
     /// Nothing at or below it can be had from that relay.
     pub since: u64,
@@ -136,6 +144,14 @@ pub struct Report {
     pub done: u64,
     /// The relay waits for others: it wants nothing above its top.
     pub is_held: bool,
+}
+
+impl Report {
+    /// All up to a stamp, and no room.
+    pub fn up_to(stamp: u64) -> Report {
+        let coverage = kept::up_to(stamp);
+        Report { coverage, since: 0, room: 0, done: 0, is_held: false }
+    }
 }
 
 #[derive(Clone, Debug, PartialEq, Eq)]

@@ -1,39 +1,50 @@
 //! A connection of a peer, as far as one author's log goes.
 
-use super::{Bounds, Coverage, List, Message, NEVER, Report, Time};
-use broadcast_node::Listed;
-use std::collections::BTreeMap;
+use super::kept::{Kept, is_cut, top, up_to};
+use super::{Bounds, Coverage, Message, NEVER, Report, Time};
+use std::collections::HashSet;
 
-/// How many messages of a list are looked at together, so that the time that a late message takes grows with the number in flight,
-/// and not with its square.
-const FEW: usize = 32;
+/// A message on its way, or that the peer brought, and that the peer's report does not show.
+#[derive(Debug)]
+struct Flight {
+    bytes: u64,
+    /// How many were sent before it and with it. 0 if the peer brought it.
+    number: u64,
+}
 
 #[derive(Debug)]
 pub struct Session {
-    /// The peer's newest report. What the peer sends is added to its coverage.
+    /// The peer's newest report.
     pub theirs: Option<Report>,
-    /// What the peer knows of this relay: by the last report, and by what was sent.
-    pub ours: Report,
+    /// The room that the peer knows of, and whether it knows that the author is held.
+    pub room: u64,
+    pub is_told_held: bool,
     /// What this relay had when the connection began, as if it were all up to its top.
     pub began: Coverage,
-    /// Sent, and not in the peer's coverage: by stamp, with the number of each; how many were sent; and the sum of sizes.
-    flying: BTreeMap<u64, (Listed, u64)>,
+    /// What the peer's report does not show and need not be sent: the stamps, in order, and of each what is known. How many were sent,
+    /// and the sums of bytes that are on their way, and that the peer brought.
+    stamps: Vec<u64>,
+    flights: Vec<Flight>,
     sent: u64,
     in_flight: u64,
+    pub brought: u64,
+    /// Above the top of the peer's report, nothing up to here is due.
+    passed: u64,
     /// How many messages came, and whether one was left out since the last report.
     pub came: u64,
     pub has_left_out: bool,
     /// The bytes that may come of what was sent while there was room.
     pub allowed: u64,
-    /// Everything on the list at or below is in the peer's coverage or flying.
-    cursor: u64,
     /// The author is among the peer's turns.
     pub has_turn: bool,
     /// A report is due, or will be at these times.
     pub is_due: bool,
     pub news_due: Time,
     pub lazy_due: Time,
-    /// The bytes that came since the last report.
+    /// Since the last report: how many were listed before it, the numbers of those that were listed since and that the peer was sent, and
+    /// the bytes that came.
+    reported: u64,
+    told: HashSet<u64>,
     pub unreported: u64,
 }
 
@@ -41,47 +52,73 @@ impl Session {
     pub fn new(began_at: u64) -> Session {
         Session {
             theirs: None,
-            ours: Report::default(),
-            began: Coverage::up_to(began_at),
-            flying: BTreeMap::new(),
+            room: 0,
+            is_told_held: false,
+            began: up_to(began_at),
+            stamps: Vec::new(),
+            flights: Vec::new(),
             sent: 0,
             in_flight: 0,
+            brought: 0,
+            passed: 0,
             came: 0,
             has_left_out: false,
             allowed: 0,
-            cursor: 0,
             has_turn: false,
             is_due: false,
             news_due: NEVER,
             lazy_due: NEVER,
+            reported: 0,
+            told: HashSet::new(),
             unreported: 0,
+        }
+    }
+
+    fn flight(&self, stamp: u64) -> Option<&Flight> {
+        self.stamps.binary_search(&stamp).ok().map(|it| &self.flights[it])
+    }
+
+    fn push(&mut self, stamp: u64, flight: Flight) {
+        let place = match self.stamps.last() {
+            Some(last) if *last >= stamp => self.stamps.partition_point(|it| *it < stamp),
+            _ => self.stamps.len(),
+        };
+        if self.stamps.get(place) != Some(&stamp) {
+            let sum = if flight.number > 0 { &mut self.in_flight } else { &mut self.brought };
+            *sum += flight.bytes;
+            self.stamps.insert(place, stamp);
+            self.flights.insert(place, flight);
         }
     }
 
     /// Whether a message is on its way to the peer.
     pub fn flies(&self, stamp: u64) -> bool {
-        self.flying.contains_key(&stamp)
+        self.flight(stamp).is_some_and(|it| it.number > 0)
     }
 
-    pub fn covers(&self, stamp: u64) -> bool {
-        self.theirs.as_ref().is_some_and(|it| it.coverage.covers(stamp))
+    /// Whether the peer has a message, as far as it reported or brought it.
+    pub fn has(&self, stamp: u64) -> bool {
+        self.theirs.as_ref().is_some_and(|it| it.coverage.has(stamp))
+            || self.flight(stamp).is_some_and(|it| it.number == 0)
     }
 
-    /// The least stamp that the peer can send, that `covered` lacks, and that is not above `limit`.
-    pub fn shows(&self, covered: &Coverage, limit: u64) -> Option<u64> {
+    /// The least stamp that the peer can send, that this relay's report lacks, and that is not above `limit`.
+    pub fn shows(&self, ours: &Coverage, limit: u64) -> Option<u64> {
         let theirs = self.theirs.as_ref()?;
-        covered.first_missing(&theirs.coverage, theirs.since, limit)
+        let limit = if is_cut(ours) { limit.min(top(ours)) } else { limit };
+        ours.first_missing(&theirs.coverage, theirs.since, limit)
     }
 
-    /// Notes that the peer sent a message, so it has it.
-    pub fn note_came(&mut self, message: &Message) {
+    /// Notes that a message of the peer came.
+    pub fn note_came(&mut self, size: u64) {
         self.came += 1;
-        self.allowed = self.allowed.saturating_sub(message.size());
-        if let Some(theirs) = &mut self.theirs
-            && theirs.coverage.fits(message.prev, message.stamp)
-        {
-            theirs.coverage.cover(message.prev, message.stamp);
-            theirs.since = theirs.since.min(message.prev);
+        self.allowed = self.allowed.saturating_sub(size);
+    }
+
+    /// Notes that the peer brought a message which this relay has, so it has it too.
+    pub fn note_brought(&mut self, stamp: u64, size: u64) {
+        if self.theirs.is_some() && !self.has(stamp) {
+            self.push(stamp, Flight { bytes: size, number: 0 });
         }
     }
 
@@ -89,112 +126,105 @@ impl Session {
         self.theirs.as_ref().is_some_and(|it| it.is_held)
     }
 
+    /// Whether a report takes back what was reported. One that is cut off shows less above its top.
+    fn takes_back(&self, report: &Report) -> bool {
+        let new = &report.coverage;
+        let upto = if is_cut(new) { top(new) } else { u64::MAX };
+        let old = self.theirs.as_ref();
+        old.is_some_and(|it| new.first_missing(&it.coverage, 0, upto).is_some())
+    }
+
     /// Replaces the peer's report, unless that takes something back. Returns the bytes that were sent and have landed. They are not
-    /// in flight any more, nor is what was left out, which is sent again.
+    /// in flight any more, nor is what was left out, which is sent again. Above the top of a report that is cut off nothing is.
     pub fn replace(&mut self, report: Report) -> Option<u64> {
-        if self.theirs.as_ref().is_some_and(|it| !report.coverage.holds(&it.coverage)) {
+        if self.takes_back(&report) {
             return None;
         }
-        let before = self.in_flight;
-        for (after, upto) in report.coverage.runs() {
-            while let Some((&stamp, (it, _))) = self.flying.range(..=upto).next_back()
-                && stamp > after
-            {
-                self.in_flight -= it.bytes;
-                self.flying.remove(&stamp);
-            }
-        }
-        let landed = before - self.in_flight;
-        let (in_flight, cursor) = (&mut self.in_flight, &mut self.cursor);
-        self.flying.retain(|stamp, (it, number)| {
-            let is_left_out = *number <= report.done;
-            if is_left_out {
-                *in_flight -= it.bytes;
-                *cursor = (*cursor).min(stamp - 1);
-            }
-            !is_left_out
+        let mut landed = 0;
+        let mut stays = self.flights.iter().zip(&self.stamps).map(|(it, stamp)| {
+            let is_shown = report.coverage.has(*stamp);
+            landed += if is_shown && it.number > 0 { it.bytes } else { 0 };
+            !is_shown && (it.number == 0 || it.number > report.done)
         });
+        let stays: Vec<bool> = stays.by_ref().collect();
+        let (mut one, mut other) = (stays.iter(), stays.iter());
+        self.stamps.retain(|_| one.next().is_some_and(|it| *it));
+        self.flights.retain(|_| other.next().is_some_and(|it| *it));
+        let sum = |is_sent: bool| {
+            let some = self.flights.iter().filter(|it| (it.number > 0) == is_sent);
+            some.map(|it| it.bytes).sum()
+        };
+        (self.in_flight, self.brought) = (sum(true), sum(false));
+        if !is_cut(&report.coverage) {
+            self.passed = 0;
+        }
         self.theirs = Some(report);
         Some(landed)
     }
 
-    fn room(&self) -> u64 {
+    fn their_room(&self) -> u64 {
         self.theirs.as_ref().map_or(0, |it| it.room)
     }
 
     pub fn has_room(&self) -> bool {
-        self.room() > self.in_flight
+        self.their_room() > self.in_flight
     }
 
-    /// A message is on the list now, which the peer has or lacks. Returns whether the peer may be sent it, and whether it is to be told of it instead.
+    /// A message is on the list now, which the peer has or lacks. Returns whether the peer may be sent it, and whether it is to be
+    /// told of it instead.
     pub fn note(&mut self, stamp: u64, size: u64, has: bool) -> (bool, bool) {
         self.unreported += size;
-        self.cursor = self.cursor.min(stamp - 1);
-        (!has && self.has_room(), !has && self.room() == 0)
-    }
-
-    /// Takes the next message for the peer, which is in flight then.
-    pub fn next(&mut self, list: &List, bounds: &Bounds) -> Option<Message> {
-        let index = self.find_next(list, bounds)?;
-        let message = list.get(index);
-        self.cursor = message.stamp;
-        self.sent += 1;
-        self.flying.insert(message.stamp, (message.listed(), self.sent));
-        self.in_flight += message.size();
-        if self.ours.coverage.fits(message.prev, message.stamp) {
-            self.ours.coverage.cover(message.prev, message.stamp);
+        if self.theirs.as_ref().is_some_and(|it| !is_cut(&it.coverage)) {
+            self.passed = self.passed.min(stamp - 1);
         }
-        Some(message.clone())
+        (!has && self.has_room(), !has && self.their_room() == 0)
     }
 
-    /// Asks the verified library for the next message, among a few of the list at a time. While there is room, the cursor moves
-    /// behind those of which the library takes none.
-    fn find_next(&mut self, list: &List, bounds: &Bounds) -> Option<usize> {
+    /// Takes the next message for the peer, which is in flight then. A peer that is held takes only what is below its top.
+    pub fn next(&mut self, kept: &Kept, bounds: &Bounds) -> Option<Message> {
         let theirs = self.theirs.as_ref()?;
-        let room = theirs.room.min(bounds.room);
-        loop {
-            let from = list.count_up_to(self.cursor);
-            let few = list.listed(from);
-            let few = &few[..few.len().min(FEW)];
-            let (first, last) = (few.first()?.stamp, few.last()?.stamp);
-            let flying: Vec<Listed> = self.flying.range(first..=last).map(|(_, it)| it.0).collect();
-            let others = self.in_flight - flying.iter().map(|it| it.bytes).sum::<u64>();
-            let left = room.saturating_sub(others);
-            match theirs.coverage.next(few, theirs.is_held, &flying, left) {
-                Some(index) => return Some(from + index),
-                None if self.in_flight >= room => return None,
-                None if theirs.is_held && theirs.coverage.top() < last => return None,
-                None => self.cursor = theirs.coverage.run_end(last),
-            }
+        let room = (self.in_flight, theirs.room.min(bounds.room));
+        let message = kept.next(&theirs.coverage, self.passed, &self.stamps, room)?;
+        let (stamp, is_above) = (message.stamp, message.stamp > top(&theirs.coverage));
+        if is_above && theirs.is_held {
+            return None;
         }
+        if is_above {
+            self.passed = self.passed.max(stamp);
+        }
+        let number = kept.number(stamp);
+        if number >= self.reported {
+            self.told.insert(number);
+        }
+        self.sent += 1;
+        self.push(stamp, Flight { bytes: message.size(), number: self.sent });
+        Some(message)
     }
 
-    /// Notes that this report is sent.
-    pub fn report(&mut self, report: &Report) {
-        self.ours.clone_from(report);
-        self.unreported = 0;
+    /// Notes that this report is sent, and how many messages were listed before it.
+    pub fn report(&mut self, report: &Report, listed: u64) {
+        (self.room, self.is_told_held) = (report.room, report.is_held);
+        (self.reported, self.unreported) = (listed, 0);
+        self.told.clear();
         (self.is_due, self.has_left_out) = (false, false);
         (self.news_due, self.lazy_due) = (NEVER, NEVER);
     }
 
     /// Whether a report is due by now. Those times that have come are past.
-    pub fn is_report_due(&mut self, now: Time, current: &Report, lazy: Time) -> bool {
-        if self.ours.is_held != current.is_held {
+    pub fn is_report_due(&mut self, now: Time, kept: &Kept, is_held: bool, lazy: Time) -> bool {
+        if self.is_told_held != is_held {
             self.lazy_due = self.lazy_due.min(now + lazy);
         }
         let mut is_due = false;
         if self.news_due <= now {
             self.news_due = NEVER;
-            is_due = self.theirs.as_ref().is_some_and(|it| {
-                let first = it.coverage.first_missing(&current.coverage, current.since, u64::MAX);
-                first.is_some()
-            });
+            let theirs = self.theirs.as_ref();
+            is_due = theirs.is_some_and(|it| kept.lag(&it.coverage) > self.brought);
         }
         if self.lazy_due <= now {
             self.lazy_due = NEVER;
-            is_due |= self.has_left_out
-                || self.ours.coverage != current.coverage
-                || self.ours.is_held != current.is_held;
+            let has_news = kept.count > self.reported + self.told.len() as u64;
+            is_due |= self.has_left_out || has_news || self.is_told_held != is_held;
         }
         is_due
     }
@@ -211,15 +241,13 @@ mod tests {
     use rand::{Rng, SeedableRng, rngs::StdRng};
     use std::collections::BTreeSet;
 
-    /// What clauses `room`, `next` and `none` of the crate `gossip` say.
-    fn wanted(list: &List, told: &Report, flying: &BTreeSet<u64>, bounds: &Bounds) -> Option<u64> {
-        let flies = |it: &&Message| flying.contains(&it.stamp);
-        let limit = if told.is_held { told.coverage.top() } else { u64::MAX };
-        let is_wanted =
-            |it: &&Message| it.stamp <= limit && !told.coverage.covers(it.stamp) && !flies(it);
-        let in_flight: u64 = list.iter().filter(flies).map(Message::size).sum();
-        let has_room = in_flight < told.room.min(bounds.room);
-        list.iter().find(is_wanted).filter(|_| has_room).map(|it| it.stamp)
+    /// What the peer is sent next, by the words: the least listed message that its report lacks and that is not in flight.
+    fn wanted(kept: &Kept, told: &Report, flying: &BTreeSet<u64>, room: u64) -> Option<u64> {
+        let limit = if told.is_held { top(&told.coverage) } else { u64::MAX };
+        let is_wanted = |it: &u64| *it <= limit && !told.coverage.has(*it) && !flying.contains(it);
+        let flies = |it: &Message| flying.contains(&it.stamp);
+        let in_flight: u64 = kept.iter().filter(flies).map(|it| it.size()).sum();
+        kept.iter().map(|it| it.stamp).find(is_wanted).filter(|_| in_flight < room)
     }
 
     #[test]
@@ -227,36 +255,55 @@ mod tests {
         let mut random = StdRng::seed_from_u64(4);
         let bounds = Bounds { room: 2_000, ..Bounds::default() };
         for _ in 0..1_000 {
-            let (mut list, mut session) = (List::new(1 << 20), Session::new(0));
-            let (mut told, mut flying) = (Coverage::default(), BTreeSet::new());
-            let (mut listed, mut sent) = (BTreeSet::new(), 0);
+            let (mut kept, mut session) = (Kept::new(0, 1 << 20, 0), Session::new(0));
+            let (mut told, mut flying, mut sent) = (Kept::new(0, 1 << 20, 0), BTreeSet::new(), 0);
             for _ in 0..80 {
-                let stamp = random.gen_range(1..200);
+                let (stamp, bytes) = (random.gen_range(1..200), vec![0; random.gen_range(0..400)]);
+                let message = Message { author: 0, stamp, prev: stamp - 1, bytes: bytes.into() };
                 match random.gen_range(0..4) {
-                    0 if listed.insert(stamp) => {
-                        let bytes = vec![0; random.gen_range(0..400)].into();
-                        let message = Message { author: 0, stamp, prev: stamp - 1, bytes };
-                        session.note(stamp, message.size(), session.covers(stamp));
-                        list.insert(message);
+                    0 if !kept.has(stamp) => {
+                        session.note(stamp, message.size(), session.has(stamp));
+                        kept.arrive(message, u64::MAX);
                     }
                     1 => {
-                        told.cover(stamp - 1, stamp + random.gen_range(0..9));
+                        told.arrive(message, u64::MAX);
+                        let coverage = told.report().clone();
                         // What was left out is not in flight any more.
                         let done = if random.gen_bool(0.3) { sent } else { 0 };
-                        flying.retain(|it: &u64| done == 0 && !told.covers(*it));
+                        flying.retain(|it: &u64| done == 0 && !coverage.has(*it));
                         let (room, is_held) = (random.gen_range(0..3_000), random.gen_bool(0.3));
-                        let coverage = told.clone();
                         session.replace(Report { coverage, since: 0, room, done, is_held });
                     }
                     _ => {
-                        let next = session.next(&list, &bounds).map(|it| it.stamp);
+                        let next = session.next(&kept, &bounds).map(|it| it.stamp);
                         let Some(theirs) = &session.theirs else { continue };
-                        assert_eq!(next, wanted(&list, theirs, &flying, &bounds));
+                        let room = theirs.room.min(bounds.room);
+                        assert_eq!(next, wanted(&kept, theirs, &flying, room));
                         flying.extend(next);
                         sent += u64::from(next.is_some());
                     }
                 }
             }
         }
+    }
+
+    /// Above the top of a report that is cut off nobody knows what is had, and each message is sent once.
+    #[test]
+    fn what_no_report_shows_is_sent_once() {
+        let (mut kept, mut session) = (Kept::new(0, 1 << 20, 0), Session::new(0));
+        for stamp in (2..=200).step_by(2) {
+            let message = Message { author: 0, stamp, prev: stamp - 1, bytes: vec![].into() };
+            kept.arrive(message, u64::MAX);
+        }
+        let coverage = kept.report().clone();
+        assert!(is_cut(&coverage) && top(&coverage) == 126);
+        let report =
+            |done| Report { coverage: coverage.clone(), room: 1_000, done, ..Report::up_to(0) };
+        let mut sent = Vec::new();
+        for _ in 0..100 {
+            session.replace(report(sent.len() as u64));
+            sent.extend(std::iter::from_fn(|| session.next(&kept, &Bounds::default())));
+        }
+        assert!(sent.iter().map(|it| it.stamp).eq((128..=200).step_by(2)));
     }
 }

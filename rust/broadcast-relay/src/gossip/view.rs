@@ -2,7 +2,7 @@
 
 use super::pace::{Bar, Patience, Wait};
 use super::session::Session;
-use super::{Bounds, Coverage, List, NEVER, Report, SECOND, Time};
+use super::{Bounds, Coverage, Kept, NEVER, Report, SECOND, Time};
 
 /// How often in a row, nearly, a peer must have reported a message before the feeder brought it, to take its place.
 const AHEAD: u32 = 32;
@@ -39,9 +39,11 @@ impl View {
     }
 
     /// Takes a report, unless that takes something back. What was sent and has landed renews the peer's patience.
-    pub fn hear(&mut self, now: Time, report: Report, list: &List, pace: u64) {
-        let lacks =
-            |session: &Session| session.theirs.as_ref().map(|it| list.lacking(&it.coverage));
+    pub fn hear(&mut self, now: Time, report: Report, kept: &Kept, pace: u64) {
+        let lacks = |session: &Session| {
+            let lag = session.theirs.as_ref().map(|it| kept.lag(&it.coverage));
+            lag.map(|it| it.saturating_sub(session.brought))
+        };
         let before = lacks(&self.session);
         let Some(landed) = self.session.replace(report) else { return };
         self.past = None;

@@ -1,7 +1,7 @@
 //! What hostile relays do.
 
 use crate::world::{Event, FULL, Kind, Random, World};
-use broadcast_relay::gossip::{Coverage, Frame, Message, Report, SECOND};
+use broadcast_relay::gossip::{Frame, Message, Report, SECOND, top};
 use bytes::Bytes;
 
 impl World {
@@ -45,24 +45,24 @@ impl World {
     ) -> Report {
         let now = self.now;
         match kind {
-            Kind::Turns if now / 150_000 % 2 == 1 => report.coverage = Coverage::default(),
+            Kind::Turns if now / 150_000 % 2 == 1 => report.coverage = Report::up_to(0).coverage,
             Kind::Mute | Kind::Turns | Kind::Part | Kind::Tenth => {
-                report.coverage = Coverage::up_to(now + 1_000_000_000);
+                report.coverage = Report::up_to(now + 1_000_000_000).coverage;
                 report.since = 0;
             }
-            Kind::Empty => report.coverage = Coverage::default(),
+            Kind::Empty => report.coverage = Report::up_to(0).coverage,
             Kind::Lag | Kind::Again | Kind::Creep => {
                 let is_full = self.nodes[author].rate == FULL;
                 let link = self.links.get_mut(&link).unwrap();
                 let entry = link.frozen.entry(author).or_insert((now, report.coverage.clone()));
                 let is_true = kind == Kind::Again && now % (8 * SECOND) > 7 * SECOND;
-                if entry.1.top() == 0 || is_true {
+                if top(&entry.1) == 0 || is_true {
                     entry.1 = report.coverage.clone();
                 }
-                if kind == Kind::Creep && now > entry.0 + 100_000 && entry.1.top() > 0 {
-                    let upto = entry.1.top() + if is_full { 1_000 } else { 20_000 };
-                    if upto < report.coverage.top() {
-                        entry.1.cover(0, upto);
+                if kind == Kind::Creep && now > entry.0 + 100_000 && top(&entry.1) > 0 {
+                    let upto = top(&entry.1) + if is_full { 1_000 } else { 20_000 };
+                    if upto < top(&report.coverage) {
+                        entry.1 = Report::up_to(upto).coverage;
                     }
                     entry.0 = now;
                 }
@@ -92,14 +92,15 @@ impl World {
             let is_idle = link.is_up && link.transit < 200_000;
             for _ in 0..if is_idle { 8 } else { 0 } {
                 let author = self.random.below(self.nodes.len() as u64) as usize;
-                let list = &self.nodes[number].machine.as_ref().unwrap().log(author).list;
-                let count = list.iter().count() as u64;
+                let kept = &self.nodes[number].machine.as_ref().unwrap().log(author).kept;
+                let count = kept.len() as u64;
                 if author == number || count == 0 {
                     continue;
                 }
                 // Mostly of the newest.
                 let most = if self.random.chance(50) { count } else { count.min(20) };
-                let message = list.get((count - 1 - self.random.below(most)) as usize).clone();
+                let place = count - 1 - self.random.below(most);
+                let Some(message) = kept.get(place as usize) else { continue };
                 if is_half && Random::new(message.stamp).chance(50) {
                     continue;
                 }

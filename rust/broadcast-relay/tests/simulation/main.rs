@@ -5,9 +5,7 @@ mod scenes;
 mod verdict;
 mod world;
 
-use broadcast_relay::gossip::{
-    Bounds, Coverage, Frame, Machine, Message, Past, Report, SECOND, Taken,
-};
+use broadcast_relay::gossip::{Bounds, Frame, Machine, Message, Past, Report, SECOND, Taken};
 use scenes::CLASSES;
 use verdict::Outcome;
 use world::{Node, Random, World, machine};
@@ -156,7 +154,7 @@ fn what_is_left_out_is_reported() {
     assert_eq!(take(1, &mut relay, 1, message), Taken::LeftOut);
     (2..100).for_each(|it| relay.timeout(it * 10_000));
     let Some(Frame::Report(2, report)) = relay.frame(SECOND, 1) else { panic!("no report") };
-    assert!(report.done == 1 && !report.coverage.covers(9));
+    assert!(report.done == 1 && !report.coverage.has(9));
 }
 
 /// A peer replays what an author said long ago to a relay that has forgotten it.
@@ -209,6 +207,11 @@ fn meet(now: u64, relays: &mut [&mut Machine]) {
     }
 }
 
+/// The stamps that a relay lists of an author.
+fn stamps(relay: &Machine, author: usize) -> Vec<u64> {
+    relay.log(author).kept.iter().map(|it| it.stamp).collect()
+}
+
 fn publish(now: u64, clock: u64, machine: &mut Machine) -> (u64, u64) {
     let (prev, stamp) = machine.next_own(clock);
     machine.publish(now, prev, stamp, vec![0; 10].into());
@@ -225,7 +228,7 @@ fn an_author_that_lost_its_journal_closes_nothing() {
         publish(it, 1_000 + it, &mut one);
     }
     meet(10, &mut [&mut one, &mut other]);
-    assert!(other.log(0).covered.runs().eq([(1_000, 1_005)]));
+    assert!(stamps(&other, 0).into_iter().eq(1_001..=1_005));
     other.disconnect(20, 0);
     let mut one = machine(&bounds, 0, 2, None);
     one.connect(30, 1, 100);
@@ -233,10 +236,10 @@ fn an_author_that_lost_its_journal_closes_nothing() {
     // Its clock went back.
     assert_eq!(publish(30, 900, &mut one), (899, 900));
     meet(40, &mut [&mut one, &mut other]);
-    assert!(one.log(0).covered.runs().eq([(899, 900), (1_000, 1_005)]));
+    assert_eq!(stamps(&one, 0), [900, 1_001, 1_002, 1_003, 1_004, 1_005]);
     assert_eq!(publish(50, 901, &mut one), (1_005, 1_006));
     meet(60, &mut [&mut one, &mut other]);
-    assert!(other.log(0).covered.runs().eq([(899, 900), (1_000, 1_006)]));
+    assert_eq!(stamps(&other, 0), [900, 1_001, 1_002, 1_003, 1_004, 1_005, 1_006]);
 }
 
 /// A message of 10 bytes of author 0.
@@ -280,11 +283,10 @@ fn an_author_uses_no_stamp_that_its_peers_have() {
 fn who_claims_an_authors_future_does_not_stop_it() {
     let mut relay = machine(&Bounds::default(), 0, 3, None);
     (1..3).for_each(|it| relay.connect(0, it, 100));
-    let coverage = Coverage::up_to(u64::MAX);
-    relay.report(0, 1, 0, Report { coverage, ..Report::default() });
-    relay.report(0, 1, 1, Report::default());
-    relay.report(0, 2, 0, Report::default());
-    relay.report(0, 2, 2, Report::default());
+    relay.report(0, 1, 0, Report::up_to(u64::MAX));
+    relay.report(0, 1, 1, Report::up_to(0));
+    relay.report(0, 2, 0, Report::up_to(0));
+    relay.report(0, 2, 2, Report::up_to(0));
     assert!(!relay.may_publish());
     (0..601).for_each(|it| relay.timeout(it * SECOND / 100));
     assert!(relay.may_publish());
@@ -307,13 +309,8 @@ fn nothing_is_published_for_nobody() {
     }
     assert_eq!(count, (2 << 20) / 100_128 + 1);
     relay.connect(7 * SECOND, 1, 100);
-    relay.report(
-        7 * SECOND,
-        1,
-        0,
-        Report { coverage: Coverage::up_to(count), ..Report::default() },
-    );
-    relay.report(7 * SECOND, 1, 1, Report::default());
+    relay.report(7 * SECOND, 1, 0, Report::up_to(count));
+    relay.report(7 * SECOND, 1, 1, Report::up_to(0));
     assert!(relay.may_publish());
 }
 
@@ -337,42 +334,52 @@ fn authors_that_are_away_cost_nothing() {
     assert!(steps < 20, "{steps}");
 }
 
-#[test]
-fn a_gap_that_nobody_fills_is_given_up_late_and_counted() {
-    let mut relay = machine(&Bounds::default(), 0, 2, None);
-    relay.connect(0, 1, 100);
-    let message = |it| Message { author: 1, stamp: 2 * it, prev: 2 * it - 1, bytes: vec![].into() };
-    // A floor, and 63 intervals behind it.
-    for it in 1..=70 {
-        let taken = if it <= 63 { Taken::New } else { Taken::LeftOut };
-        assert_eq!(take(it, &mut relay, 1, message(it)), taken);
-    }
-    // The author has reported, and can send the 60th and what is behind it.
-    let coverage = Coverage::up_to(140);
-    relay.report(SECOND, 1, 1, Report { coverage, since: 119, ..Report::default() });
-    relay.timeout(3 * SECOND - 1);
-    assert_eq!(take(3 * SECOND - 1, &mut relay, 1, message(64)), Taken::LeftOut);
-    relay.timeout(3 * SECOND);
-    // What is in front of the first was before this relay's time.
-    assert_eq!((relay.log(1).lost, relay.log(1).given_up), (59, 0));
-    (64..=70).for_each(|it| assert_eq!(take(3 * SECOND, &mut relay, 1, message(it)), Taken::New));
-    assert_eq!((relay.log(1).lost, relay.log(1).given_up), (59, 7));
+/// A message of author 1 or 2 with a gap before it.
+fn apart(author: usize, it: u64) -> Message {
+    Message { author, stamp: 2 * it, prev: 2 * it - 1, bytes: vec![].into() }
 }
 
-/// The author is away when a peer brings what has too many gaps, and is given a minute to come back and fill them.
 #[test]
-fn a_gap_that_its_author_may_fill_is_kept_for_a_minute() {
+fn a_log_of_many_gaps_takes_all_that_comes_and_counts_what_is_lost() {
+    let mut relay = machine(&Bounds::default(), 0, 2, None);
+    relay.connect(0, 1, 100);
+    (1..=100).for_each(|it| assert_eq!(take(it, &mut relay, 1, apart(1, it)), Taken::New));
+    // The author's list begins behind what it has at 119.
+    relay.report(SECOND, 1, 1, Report { since: 119, ..Report::up_to(200) });
+    relay.timeout(3 * SECOND - 1);
+    assert_eq!(relay.log(1).lost, 0);
+    relay.timeout(3 * SECOND);
+    // 59 gaps, of which the author can fill none any more.
+    assert_eq!((relay.log(1).lost, relay.log(1).kept.len()), (59, 100));
+}
+
+/// The author is away when a peer shows that it cannot send something, and has a minute to come back with it.
+#[test]
+fn a_gap_that_its_author_may_fill_is_lost_after_a_minute() {
     let mut relay = machine(&Bounds::default(), 0, 3, None);
     relay.connect(0, 1, 100);
-    let coverage = Coverage::up_to(200);
-    relay.report(0, 1, 2, Report { coverage, since: 199, ..Report::default() });
+    relay.report(0, 1, 2, Report::up_to(200));
     while relay.frame(0, 1).is_some() {}
-    let message = |it| Message { author: 2, stamp: 2 * it, prev: 2 * it - 1, bytes: vec![].into() };
-    (1..=63).for_each(|it| assert_eq!(take(it, &mut relay, 1, message(it)), Taken::New));
-    for (now, taken) in [(59 * SECOND, Taken::LeftOut), (61 * SECOND, Taken::New)] {
+    (1..=63).for_each(|it| assert_eq!(take(it, &mut relay, 1, apart(2, it)), Taken::New));
+    relay.report(100, 1, 2, Report { since: 199, ..Report::up_to(200) });
+    for (now, lost) in [(59 * SECOND, 0), (61 * SECOND, 63)] {
         relay.timeout(now);
-        assert_eq!(take(now, &mut relay, 1, message(64)), taken);
+        assert_eq!(relay.log(2).lost, lost);
     }
+}
+
+/// Its author's messages until then would leave for it, and all that come after it.
+#[test]
+fn what_is_too_far_in_the_future_is_left_out() {
+    let mut relay = machine(&Bounds::default(), 0, 2, None);
+    relay.connect(0, 1, 100);
+    relay.set_latest(1_000);
+    let message = |stamp| Message { author: 1, stamp, prev: stamp - 1, bytes: vec![].into() };
+    for (stamp, taken) in [(1_000, Taken::New), (1_001, Taken::LeftOut), (999, Taken::New)] {
+        assert_eq!(take(0, &mut relay, 1, message(stamp)), taken);
+    }
+    relay.set_latest(1_001);
+    assert_eq!(take(0, &mut relay, 1, message(1_001)), Taken::New);
 }
 
 /// A peer brings each second message of an author, over which gaps were once closed by force.
@@ -387,8 +394,7 @@ fn who_brings_a_part_in_any_order_keeps_nothing_away() {
         relay.connect(0, 2, 100);
         if has_room {
             // It shows all, and becomes the feeder.
-            let coverage = Coverage::up_to(ALL);
-            relay.report(0, 2, 1, Report { coverage, ..Report::default() });
+            relay.report(0, 2, 1, Report::up_to(ALL));
             while relay.frame(0, 2).is_some() {}
         }
         for stamp in (2..=ALL).step_by(2) {
@@ -408,8 +414,7 @@ fn who_brings_a_part_in_any_order_keeps_nothing_away() {
             relay.timeout(now);
             author.timeout(now);
         }
-        assert!(relay.log(1).covered.runs().eq([(0, ALL)]), "room {has_room}");
-        assert_eq!((relay.log(1).given_up, relay.log(1).list.iter().count()), (0, ALL as usize));
+        assert!(stamps(&relay, 1).into_iter().eq(1..=ALL), "room {has_room}");
     }
 }
 
@@ -434,7 +439,7 @@ fn who_lists_an_author_late_gets_what_its_peers_have() {
     meet(0, &mut [&mut one, &mut other]);
     one.add(SECOND, Past::default());
     meet(SECOND, &mut [&mut one, &mut other]);
-    assert!(one.log(2).covered.runs().eq([(0, 19)]));
+    assert!(stamps(&one, 2).into_iter().eq(1..=19));
 }
 
 /// The bounds by default, where no author is too fast.
@@ -445,7 +450,7 @@ fn fast() -> Bounds {
 /// Gives a relay 1 MB of author 2.
 fn fill(now: u64, relay: &mut Machine) {
     for _ in 0..10 {
-        let prev = relay.log(2).covered.top();
+        let prev = relay.log(2).kept.top();
         let message = Message { author: 2, stamp: prev + 1, prev, bytes: vec![0; 100_000].into() };
         assert_eq!(take(now, relay, 2, message), Taken::New);
     }
@@ -462,7 +467,7 @@ fn who_does_not_list_an_author_is_not_waited_for() {
     assert!(authors.eq([1, 2, 0]), "the own log is not reported last");
     (0..3).for_each(|it| fill(it, &mut relay));
     assert!(relay.log(2).is_held);
-    relay.report(3, 1, 1, Report::default());
+    relay.report(3, 1, 1, Report::up_to(0));
     assert!(!relay.log(2).is_held);
 }
 
@@ -472,7 +477,7 @@ fn who_does_not_list_an_author_is_not_waited_for() {
 fn who_loses_its_connection_is_waited_for() {
     let mut relay = machine(&fast(), 0, 3, None);
     relay.connect(0, 1, 100);
-    relay.report(0, 1, 2, Report::default());
+    relay.report(0, 1, 2, Report::up_to(0));
     relay.disconnect(1, 1);
     (1..4).for_each(|it| fill(it, &mut relay));
     assert!(relay.log(2).is_held && relay.left_behind(1) == 0);
@@ -517,10 +522,9 @@ fn who_reports_all_and_nothing_by_turns_is_waited_for_once() {
                     relay.disconnect(now, 1);
                     relay.connect(now, 1, 100);
                 }
-                let top = relay.log(2).covered.top();
+                let top = relay.log(2).kept.top();
                 let top = if now % SECOND == 0 { 0 } else { top };
-                let coverage = Coverage::up_to(top);
-                relay.report(now, 1, 2, Report { coverage, ..Report::default() });
+                relay.report(now, 1, 2, Report::up_to(top));
             }
             relay.timeout(now);
             match relay.log(2).is_held {
@@ -539,7 +543,7 @@ fn who_takes_a_claim_back_does_not_feed_again_and_again() {
         let mut relay = machine(&Bounds::default(), 0, 4, None);
         relay.connect(0, 1, 100);
         relay.connect(0, 2, 100);
-        let report = |upto| Report { coverage: Coverage::up_to(upto), ..Report::default() };
+        let report = |upto| Report::up_to(upto);
         let (mut turns, mut had) = (0, 0);
         for now in (1..1_000).map(|it| it * 10_000) {
             // The honest peer brings what it has, if it is to; the other claims more, and never brings anything.
@@ -593,8 +597,8 @@ fn relays_that_lack_each_others_messages_do_not_wait_for_each_other() {
         other.timeout(now);
         meet(now, &mut [&mut one, &mut other]);
     }
-    assert!(one.log(2).covered.runs().eq([(0, 60)]));
-    assert!(other.log(2).covered.runs().eq([(0, 60)]));
+    assert!(stamps(&one, 2).into_iter().eq(1..=60));
+    assert!(stamps(&other, 2).into_iter().eq(1..=60));
 }
 
 /// Of who ignores its room, what is above its author's rate is left out.
@@ -633,7 +637,7 @@ fn some_of(random: &mut Random, author: usize) -> Vec<Past> {
         let message = Message { author, stamp, prev: stamp - 1, bytes: vec![0; 900].into() };
         match random.below(4) {
             0 => {}
-            1 => drop(log.covered.cover(stamp - 1, stamp)),
+            1 => log.floor = stamp,
             _ => log.messages.push(message),
         }
     }
@@ -660,7 +664,8 @@ fn no_relays_wait_in_a_circle() {
             meet(now, &mut relays.iter_mut().collect::<Vec<_>>());
         }
         for (one, other) in (0..count).flat_map(|one| (0..count).map(move |it| (one, it))) {
-            let lacks = relays[one].log(count).list.lacking(&relays[other].log(count).covered);
+            let kept = &relays[other].log(count).kept;
+            let lacks = stamps(&relays[one], count).into_iter().filter(|it| !kept.has(*it)).count();
             assert!(lacks == 0 || !near(one, other), "{seed}: {other} of {count} lacks {lacks}");
         }
     }

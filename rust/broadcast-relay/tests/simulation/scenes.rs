@@ -1,7 +1,7 @@
 //! The classes of runs, and what a seed makes of them.
 
 use crate::world::{Event, FULL, Kind, Link, Node, Random, World, machine};
-use broadcast_relay::gossip::{Bounds, Coverage, Message, Past, SECOND};
+use broadcast_relay::gossip::{Bounds, Message, Past, SECOND};
 use bytes::Bytes;
 
 /// Those without hostile relays first.
@@ -340,27 +340,26 @@ impl World {
         events
     }
 
-    /// A part of the log of author 0: some runs of it, of each a part on the list.
+    /// A part of the log of author 0: all up to a floor was had, and some runs are on the list.
     fn past(&mut self, own: usize) -> Vec<Past> {
         let mut past = vec![Past::default(); self.nodes.len()];
         let bytes = Bytes::from(vec![1; 1_000]);
-        let mut covered = Coverage::default();
+        let floor = if self.random.chance(30) { self.random.below(300) } else { 0 };
+        let seen = &mut self.nodes[own].seen;
+        seen.extend((1..=floor).map(|it| ((0, 1_000 * it), 0)));
         for _ in 0..self.random.between(0, 4) {
             let first = self.random.below(600);
             let last = first + 1 + self.random.below(600 - first);
-            let listed =
-                if self.random.chance(70) { first } else { self.random.between(first, last) };
-            covered.cover(1_000 * first, 1_000 * last);
             for place in first..last {
                 let stamp = 1_000 * (place + 1);
                 let is_new = self.nodes[own].seen.insert((0, stamp), 0).is_none();
-                if is_new && place >= listed {
+                if is_new {
                     let bytes = bytes.clone();
                     past[0].messages.push(Message { author: 0, stamp, prev: stamp - 1_000, bytes });
                 }
             }
         }
-        past[0].covered = covered;
+        past[0].floor = 1_000 * floor;
         past
     }
 }

@@ -64,7 +64,7 @@ impl World {
             {
                 let seen = &self.nodes[peer].seen;
                 let lacks = |stamp: u64| !seen.contains_key(&(author, stamp));
-                let listed = machine.log(author).list.iter();
+                let listed = machine.log(author).kept.iter();
                 wrong.extend(listed.filter(|it| lacks(it.stamp)).map(|it| {
                     format!("{author}/{} is on the list of {node}, not at {peer}", it.stamp)
                 }));
@@ -77,7 +77,7 @@ impl World {
         let machine = |it: usize| self.nodes[it].machine.as_ref().unwrap();
         let log = machine(lacking).log(author);
         let mut near = self.near[lacking].iter().filter(|it| self.nodes[**it].is_honest());
-        log.lost > 0 || log.given_up > 0 || near.any(|it| machine(*it).left_behind(lacking) > 0)
+        log.lost > 0 || near.any(|it| machine(*it).left_behind(lacking) > 0)
     }
 
     /// All messages of slow honest authors are everywhere, and those of fast ones if nothing broke.

@@ -377,8 +377,8 @@ impl World {
         let is_kept = |author: usize| author != number || node.has_published;
         let past = |author: usize| match is_kept(author) {
             true => Past {
-                covered: machine.log(author).covered.clone(),
-                messages: machine.log(author).list.iter().cloned().collect(),
+                floor: machine.log(author).kept.floor(),
+                messages: machine.log(author).kept.iter().collect(),
             },
             false => Past::default(),
         };
@@ -519,7 +519,7 @@ impl World {
 
     pub fn send(&mut self, from: usize, to: usize, frame: Frame) {
         let wire = match &frame {
-            Frame::Report(_, report) => 26 + 16 * report.coverage.gaps() as u64,
+            Frame::Report(_, report) => 26 + 16 * report.coverage.spans().len() as u64,
             Frame::Message(message) => 96 + message.bytes.len() as u64,
         };
         let link = self.links.get_mut(&(from, to)).unwrap();

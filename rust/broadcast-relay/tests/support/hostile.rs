@@ -45,7 +45,7 @@ pub fn frames(bytes: &[u8]) -> impl Iterator<Item = &[u8]> {
 
 /// The first frame of a peer.
 pub fn hello() -> Vec<u8> {
-    frame(3, &4_u16.to_be_bytes())
+    frame(3, &5_u16.to_be_bytes())
 }
 
 /// A report: which intervals of an author's stamps a peer has had, since when it can send them, and what room it has.
