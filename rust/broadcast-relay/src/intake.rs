@@ -411,7 +411,9 @@ impl Intake {
             taken
         });
         let taken = taken.map_err(invalid)?;
-        if taken == Taken::New && node != OWN {
+        // What stood in a damaged record of the journal was delivered before.
+        let is_old = known.journal.as_ref().is_some_and(|it| it.may_have_had(message.stamp));
+        if taken == Taken::New && node != OWN && !is_old {
             (self.deliver)(&author, &message);
         }
         Ok(taken)

@@ -18,7 +18,7 @@ use hex::FromHex;
 use std::collections::BTreeSet;
 use std::fs::{self, File, OpenOptions, TryLockError};
 use std::io::{self, ErrorKind, Write};
-use std::os::unix::fs::{DirBuilderExt, FileExt, OpenOptionsExt};
+use std::os::unix::fs::{DirBuilderExt, FileExt, MetadataExt, OpenOptionsExt};
 use std::path::{Path, PathBuf};
 
 /// Begins each file: what it is, and its version.
@@ -61,6 +61,8 @@ fn check(parts: &[&[u8]]) -> [u8; CHECK] {
 struct Found {
     floor: u64,
     messages: Vec<Signed>,
+    /// The stamps, above the first and up to the second, that stood in damaged records.
+    torn: Vec<(u64, u64)>,
 }
 
 /// The files of one author.
@@ -74,6 +76,8 @@ pub struct Journal {
     /// The floor and the list of what was written to any file. The handle of a message is the number of its file.
     log: AuthorLog,
     number: u64,
+    /// The stamps that stood in damaged records when the files were opened.
+    torn: Vec<(u64, u64)>,
 }
 
 /// Adds a message of a file to a log.
@@ -103,7 +107,8 @@ impl Journal {
         found.messages.retain(|it| it.stamp > found.floor && log.has(it.stamp));
         let file = private().open(&newer).map_err(of(&newer))?;
         let len = file.metadata()?.len();
-        let mut journal = Journal { older, newer, file, len, most, log, number: 1 };
+        let torn = found.torn;
+        let mut journal = Journal { older, newer, file, len, most, log, number: 1, torn };
         if len == 0 {
             journal.write(&head(found.floor))?;
         }
@@ -113,6 +118,11 @@ impl Journal {
         };
         let messages = found.messages.into_iter().map(numbered).collect();
         Ok((journal, Past { floor: found.floor, messages }))
+    }
+
+    /// Whether a message may have stood in a damaged record, so that it was delivered before.
+    pub fn may_have_had(&self, stamp: u64) -> bool {
+        self.torn.iter().any(|&(after, upto)| after < stamp && stamp <= upto)
     }
 
     /// Appends messages, all or none.
@@ -126,7 +136,14 @@ impl Journal {
 
     /// Writes by one call, which a kill of the process leaves whole or undone. What an error leaves of it is cut off.
     fn write(&mut self, bytes: &[u8]) -> io::Result<()> {
-        if self.file.metadata()?.len() != self.len {
+        let there = self.file.metadata()?;
+        if there.nlink() == 0 {
+            tracing::warn!(file = %self.newer.display(), "deleted while the relay runs: begun anew");
+            // What was had is in no file any more, and is not to be delivered again after the next start.
+            let last = self.log.len().checked_sub(1).and_then(|it| self.log.get(it));
+            self.begin(&head(last.map_or(self.log.floor(), |it| it.stamp)))
+                .map_err(of(&self.newer))?;
+        } else if there.len() != self.len {
             self.file.set_len(self.len)?;
         }
         self.file.write_all_at(bytes, self.len).map_err(of(&self.newer))?;
@@ -134,12 +151,16 @@ impl Journal {
         Ok(())
     }
 
-    /// Begins a new file. Whenever it is cut short, the files that are there say what was had.
+    /// Begins a new file with what is listed and in no other.
     fn rotate(&mut self) -> io::Result<()> {
+        self.begin(&[head(self.log.floor()), records(&self.carried()?)].concat())
+    }
+
+    /// Begins a new file. Whenever it is cut short, the files that are there say what was had.
+    fn begin(&mut self, bytes: &[u8]) -> io::Result<()> {
         let fresh = self.newer.with_extension("new");
         let file = private().truncate(true).open(&fresh)?;
-        let bytes = [head(self.log.floor()), records(&self.carried()?)].concat();
-        file.write_all_at(&bytes, 0)?;
+        file.write_all_at(bytes, 0)?;
         match fs::rename(&self.newer, &self.older) {
             Err(why) if why.kind() != ErrorKind::NotFound => return Err(why),
             _ => fs::rename(&fresh, &self.newer)?,
@@ -222,19 +243,25 @@ fn parse(bytes: &[u8], found: &mut Found) -> (usize, usize) {
     found.floor = found.floor.max(floor.unwrap_or(0));
     let (mut at, mut wrong) = (HEAD, usize::from(floor.is_none()));
     let mut parsed = (at, wrong);
+    let (mut before, mut is_torn) =
+        (found.messages.last().map_or(found.floor, |it| it.stamp), false);
     // Wrong records at the end may be no records at all. Behind a wrong one, the next may begin anywhere, also within a text of the
     // author: so from there on it counts only with a signature.
     let mut is_sure = true;
     while at < bytes.len() {
         match parse_record(bytes, at).filter(|(it, _)| is_sure || it.is_signed()) {
             Some((message, end)) => {
+                if std::mem::take(&mut is_torn) {
+                    found.torn.push((before, message.prev));
+                }
+                before = message.stamp;
                 found.messages.push(message);
                 at = end;
                 parsed = (at, wrong);
             }
             None => {
                 wrong += usize::from(is_sure);
-                (at, is_sure) = (at + 1, false);
+                (at, is_sure, is_torn) = (at + 1, false, true);
             }
         }
     }

@@ -337,6 +337,54 @@ fn authors_that_only_one_lists_are_told() {
     assert_eq!(relays[0].metric("relay_unlisted_total{peer=\"r1\"}"), 0.0);
 }
 
+/// A bit of the length of the second record changes while the relay is down.
+#[test]
+fn a_damaged_journal_prints_nothing_twice() {
+    const COUNT: usize = 20;
+    let mut relays = pair("damaged");
+    relays.iter_mut().for_each(Relay::start);
+    wait_for("connected", || relays[0].is_connected("r1"));
+    for it in 0..COUNT {
+        relays[0].write(&format!("line {it}"));
+        wait_for("the line", || relays[1].printed_count() == it + 1);
+    }
+    relays[1].kill();
+    let file = relays[1].journal_folder().join(&relays[0].key.text);
+    let mut bytes = fs::read(&file).unwrap();
+    let texts = |it: &[u8]| it.windows(5).filter(|it| it == b"line ").count();
+    assert_eq!(texts(&bytes), COUNT);
+    let first = bytes.windows(6).position(|it| it == b"line 0").unwrap();
+    bytes[first + 6 + 3] ^= 4;
+    fs::write(&file, bytes).unwrap();
+    relays[1].start();
+    relays[0].write("after it");
+    wait_for("the line", || relays[1].has_printed("r0", "after it"));
+    assert!(relays[1].log().contains("damaged"));
+    // The message comes again, and is kept again.
+    wait_for("the journal", || texts(&fs::read(&file).unwrap()) == COUNT + 1);
+    assert_eq!(relays[1].printed_count(), COUNT + 1);
+    assert!(relays[1].counted().values().all(|it| *it == 1));
+}
+
+/// Somebody deletes the journal of a relay that runs.
+#[test]
+fn a_journal_that_is_deleted_is_begun_anew() {
+    let mut relays = pair("deleted");
+    relays.iter_mut().for_each(Relay::start);
+    wait_for("connected", || relays[0].is_connected("r1"));
+    relays[0].write("before");
+    wait_for("before", || relays[1].has_printed("r0", "before"));
+    fs::remove_file(relays[1].journal_folder().join(&relays[0].key.text)).unwrap();
+    relays[0].write("after");
+    wait_for("after", || relays[1].has_printed("r0", "after"));
+    assert!(relays[1].log().contains("deleted while the relay runs"));
+    relays[1].kill();
+    relays[1].start();
+    relays[0].write("again");
+    wait_for("again", || relays[1].has_printed("r0", "again"));
+    assert_eq!(relays[1].printed_count(), 3);
+}
+
 #[test]
 fn a_text_is_printed_as_it_was_typed_if_asked_for() {
     let mut relays = pair("raw");
