@@ -4,7 +4,7 @@ use crate::config::Config;
 use crate::gossip::{self, SECOND};
 use crate::identity::{Identity, may_others_read};
 use crate::input::{self, Lines};
-use crate::intake::{Deliver, Intake, Parts};
+use crate::intake::{Deliver, Intake};
 use crate::journal;
 use crate::listen::{Met, Network, accept, apart, start_dialing};
 use crate::metrics::{self, serve_metrics};
@@ -165,15 +165,12 @@ async fn start(config: &Config, log: Output) -> io::Result<(Arc<Network>, Option
         Some(_) => Some(Output::start("output", io::stdout(), MAX_WAITING)?),
         None => None,
     };
-    let intake = Arc::new(Intake::new(Parts {
-        identity,
-        bounds: config.limits.bounds(),
-        signature_cost: config.limits.signature_cost(),
-        journal: config.journal.clone(),
-        deliver: printer(config, &output),
-    })?);
+    let (limits, journal) = (&config.limits, config.journal.clone());
+    let (bounds, cost) = (limits.bounds(), limits.signature_cost());
+    let intake = Intake::new(identity, bounds, cost, journal, printer(config, &output))?;
+    let intake = Arc::new(intake);
     let [places, of_address] =
-        [config.limits.handshakes, config.limits.handshakes_per_address].map(|it| it as usize);
+        [limits.handshakes, limits.handshakes_per_address].map(|it| it as usize);
     let network = Arc::new(Network {
         tls: Tls::new(intake.clone())?,
         intake,

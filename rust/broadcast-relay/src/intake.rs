@@ -9,8 +9,8 @@ use crate::identity::{Identity, PeerId};
 use crate::invalid;
 use crate::lock::Mutex;
 use crate::message::Signed;
-use crate::registry::{Author, Registry};
-pub use crate::registry::{Connection, Counts, Peer};
+use crate::registry::{Author, Counts, Registry};
+pub use crate::registry::{Connection, Peer};
 use crate::trouble::Trouble;
 use crate::wire::Packet;
 use std::io::{self, ErrorKind};
@@ -32,20 +32,6 @@ const OWN: usize = 0;
 /// Called with each new message of a peer and its author, once it is journaled.
 pub type Deliver = Box<dyn Fn(&Peer, &Signed) + Send + Sync>;
 
-/// What a relay is made of.
-pub struct Parts {
-    /// Its key.
-    pub identity: Identity,
-    /// The bounds of the protocol.
-    pub bounds: Bounds,
-    /// What the check of a signature is charged to its author, in bytes.
-    pub signature_cost: u64,
-    /// The folder of the journal, if there is one. Whoever has it holds [`crate::journal::lock_folder`].
-    pub journal: Option<PathBuf>,
-    /// What becomes of new messages.
-    pub deliver: Deliver,
-}
-
 /// A relay without a network.
 pub struct Intake {
     /// Its key.
@@ -64,12 +50,6 @@ pub struct Intake {
     journal: Option<PathBuf>,
     most: u64,
     deliver: Deliver,
-}
-
-impl fmt::Debug for Parts {
-    fn fmt(&self, f: &mut fmt::Formatter<'_>) -> fmt::Result {
-        f.debug_struct("Parts").field("identity", &self.identity).finish_non_exhaustive()
-    }
 }
 
 impl fmt::Debug for Intake {
@@ -115,31 +95,38 @@ impl Shared {
     }
 }
 
-/// How a node does. The first of all is this relay.
-#[derive(Clone, Debug)]
-pub struct Standing {
-    /// Its name in the configuration.
+type Count = fn(&Standing) -> u64;
+
+/// What is logged of a node when it begins to be counted, and when it has not been counted for a while.
+const TROUBLES: [(&str, Count); 4] = [
+    ("it stands still: nobody waits for it any more", |it| it.counts.stalled),
+    ("what it lacks leaves the lists", |it| it.left_behind),
+    ("lost: no connected peer has it any more", |it| it.lost),
+    ("it lists authors that this relay does not list", |it| it.counts.unlisted),
+];
+
+/// How a node does.
+pub(crate) struct Standing {
     pub name: String,
-    /// Whether it is a peer, and not this relay.
     pub is_peer: bool,
-    /// Whether it is connected.
     pub is_connected: bool,
-    /// Whether its log waits for a peer.
     pub is_held: bool,
-    /// Whether it stands still, and nobody waits for it any more.
     pub is_stalled: bool,
-    /// How many gaps of its log no connected peer could fill.
     pub lost: u64,
-    /// How many messages left a list while it lacked them.
     pub left_behind: u64,
-    /// What was counted.
     pub counts: Counts,
 }
 
 impl Intake {
-    /// Makes a relay without peers.
-    pub fn new(parts: Parts) -> io::Result<Intake> {
-        let Parts { identity, bounds, signature_cost, journal, deliver } = parts;
+    /// Makes a relay without peers. The check of a signature is charged to its author as so many bytes. Whoever has a folder with a
+    /// journal holds [`crate::journal::lock_folder`].
+    pub fn new(
+        identity: Identity,
+        bounds: Bounds,
+        signature_cost: u64,
+        journal: Option<PathBuf>,
+        deliver: Deliver,
+    ) -> io::Result<Intake> {
         let own = PeerConfig { name: "own".into(), key: identity.id, address: None };
         let most = bounds.list;
         let (author, past) = Author::open(journal.as_deref(), &own.key, most)?;
@@ -492,30 +479,27 @@ impl Intake {
     }
 
     /// How each node does that is listed.
-    pub fn standings(&self, now: Time) -> Vec<Standing> {
+    pub(crate) fn standings(&self, now: Time) -> Vec<Standing> {
         let (shared, now) = self.at(now);
         let Shared { machine, registry, .. } = &*shared;
         registry.listed().map(|it| standing(machine, registry, it, now)).collect()
     }
 
-    /// Logs what begins and what is over that an operator is to know.
+    /// Logs what begins and what is over that an operator is to know. Called each second.
     pub fn look(&self, now: Time) {
         let (mut shared, now) = self.at(now);
         let Shared { machine, registry, elsewhere, .. } = &mut *shared;
         let listed: Vec<_> = registry.listed().cloned().collect();
         for peer in listed {
+            let is_stalled = machine.is_stalled(now, peer.node);
+            registry.seats[peer.node].counts.stalled += u64::from(is_stalled);
             let it = standing(machine, registry, &peer, now);
-            let (name, troubles) = (&*it.name, &mut registry.seats[peer.node].troubles);
-            let noted = [
-                (troubles.stalled.note_whether(now, it.is_stalled), 1, STALLED),
-                (troubles.left_behind.note(now, it.left_behind), it.left_behind, LEFT_BEHIND),
-                (troubles.lost.note(now, it.lost), it.lost, LOST),
-                (troubles.unlisted.note(now, it.counts.unlisted), it.counts.unlisted, UNLISTED),
-            ];
-            for (noted, count, [begins, ends]) in noted {
-                match noted {
-                    Some(true) => warn!(node = name, count, "{begins}"),
-                    Some(false) => warn!(node = name, count, "{ends}"),
+            let troubles = &mut registry.seats[peer.node].troubles;
+            for ((what, count), trouble) in TROUBLES.iter().zip(troubles) {
+                let count = count(&it);
+                match trouble.note(now, count) {
+                    Some(true) => warn!(node = it.name, count, "{what}"),
+                    Some(false) => warn!(node = it.name, count, "over: {what}"),
                     None => {}
                 }
             }
@@ -529,17 +513,6 @@ impl Intake {
         }
     }
 }
-
-/// What is logged when each begins, and when it is over.
-const STALLED: [&str; 2] =
-    ["it stands still: nobody waits for it any more", "it does not stand still any more"];
-const LEFT_BEHIND: [&str; 2] =
-    ["what it lacks leaves the lists", "nothing more that it lacks leaves"];
-const LOST: [&str; 2] = ["lost: no connected peer has it any more", "nothing more is lost"];
-const UNLISTED: [&str; 2] = [
-    "it lists authors that this relay does not list: these do not get through here",
-    "nothing more comes of authors that are not listed",
-];
 
 fn standing(machine: &Machine, registry: &Registry, peer: &Peer, now: Time) -> Standing {
     let (node, log) = (peer.node, machine.log(peer.node));
@@ -580,14 +553,10 @@ mod tests {
     /// A relay that lists these, and the texts that it delivers.
     fn intake(peers: &[&Identity], journal: Option<PathBuf>) -> (Intake, Receiver<Vec<u8>>) {
         let (sender, delivered) = channel();
-        let parts = Parts {
-            identity: Identity::generate().unwrap(),
-            bounds: Bounds::default(),
-            signature_cost: COST,
-            journal,
-            deliver: Box::new(move |_, it| sender.send(it.text().to_vec()).unwrap()),
-        };
-        let intake = Intake::new(parts).unwrap();
+        let deliver =
+            Box::new(move |_: &Peer, it: &Signed| sender.send(it.text().to_vec()).unwrap());
+        let (identity, bounds) = (Identity::generate().unwrap(), Bounds::default());
+        let intake = Intake::new(identity, bounds, COST, journal, deliver).unwrap();
         let peers: Vec<_> = peers.iter().map(|it| peer(it)).collect();
         assert_eq!(intake.set_peers(0, &peers).unwrap().len(), peers.len());
         (intake, delivered)

@@ -103,30 +103,19 @@ impl Connection {
     }
 }
 
-/// What is counted of a node since the start.
+/// What is counted of a node since the start: as an author and as a peer.
 #[derive(Clone, Copy, Debug, Default, PartialEq, Eq)]
-pub struct Counts {
-    /// Its messages that were new.
+pub(crate) struct Counts {
     pub delivered: u64,
-    /// What it sent that was had, that was left out, and that was of no listed author; its reports of unlisted authors count too.
     pub again: u64,
-    /// See `again`.
     pub left_out: u64,
-    /// See `again`.
+    /// Its messages and reports of unlisted authors.
     pub unlisted: u64,
-    /// How often it broke the rules.
     pub invalid: u64,
+    /// For how many seconds it stood still.
+    pub stalled: u64,
     /// How often a new connection replaced one that had not ended.
     pub replaced: u64,
-}
-
-/// What an operator is to hear of a node.
-#[derive(Debug, Default)]
-pub(crate) struct Troubles {
-    pub stalled: Trouble,
-    pub left_behind: Trouble,
-    pub lost: Trouble,
-    pub unlisted: Trouble,
 }
 
 /// The place of a node's one connection, and what the node did before.
@@ -135,7 +124,8 @@ pub(crate) struct Seat {
     pub is_listed: bool,
     pub connection: Option<Arc<Connection>>,
     pub counts: Counts,
-    pub troubles: Troubles,
+    /// What an operator is to hear of it.
+    pub troubles: [Trouble; 4],
     bar: Bar,
     logged: Bucket,
     /// How often its connection was replaced since when.
@@ -149,7 +139,7 @@ impl Seat {
             is_listed: true,
             connection: None,
             counts: Counts::default(),
-            troubles: Troubles::default(),
+            troubles: Default::default(),
             bar: Bar::default(),
             logged: Bucket::new(LOGGED.0, LOGGED.1),
             replaced: 0,

@@ -25,11 +25,6 @@ impl Trouble {
             false
         })
     }
-
-    /// The same for what is so or not.
-    pub fn note_whether(&mut self, now: Time, is_so: bool) -> Option<bool> {
-        self.note(now, self.count + u64::from(is_so))
-    }
 }
 
 #[cfg(test)]

@@ -431,7 +431,7 @@ fn what_is_lost_is_counted_and_logged() {
     wait_for("the loss", || relays[0].metric("relay_lost_total{author=\"r0\"}") > 0.0);
     wait_for("a warning", || relays[0].log().contains("no connected peer has it any more"));
     wait_for("it moves", || author.metric("relay_stalled{peer=\"r1\"}") == 0.0);
-    wait_for("its end", || author.log().contains("does not stand still any more"));
+    wait_for("its end", || author.log().contains("over: it stands still"));
     assert!(relays[0].terminate() && author.terminate());
 }
 
