@@ -35,6 +35,11 @@ pub fn top(report: &Coverage) -> u64 {
     report.spans().last().map_or(report.floor(), |it| it.to)
 }
 
+/// Whether a report shows a stamp. The library is asked only about what is between its floor and its top.
+pub fn shows(report: &Coverage, stamp: u64) -> bool {
+    stamp <= report.floor() || (stamp <= top(report) && report.has(stamp))
+}
+
 /// Whether a report may be cut off: then nothing is known of what is above its top.
 pub fn is_cut(report: &Coverage) -> bool {
     report.spans().len() == Coverage::MOST

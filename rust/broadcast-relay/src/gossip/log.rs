@@ -1,38 +1,34 @@
-//! One author's log, and all that is decided for it: who is waited for, who feeds this relay, who is to get a report.
+//! One author's log, and all that is decided for it: who is waited for, who is to get a report; `asks` says who is to bring it.
 
+use super::asks::Asks;
 use super::kept::{Kept, top};
 use super::links::{Link, Links};
 use super::pace::{Patience, Wait};
 use super::session::Session;
 use super::view::View;
-use super::{Bounds, Bucket, Coverage, Message, NEVER, Past, Report, SECOND, Time};
+use super::{Bounds, Bucket, Coverage, Message, NEVER, Past, Report, Time};
 use broadcast_node::log::Arrived;
 use std::collections::BTreeMap;
 
-/// How many of the stamps are known that a log lacks, and that may be lost.
+/// How many gaps are looked at.
 const MOST_LACKING: usize = 64;
 
 #[derive(Debug)]
 pub struct Log {
-    author: usize,
+    pub author: usize,
     pub is_listed: bool,
     pub kept: Kept,
-    /// The stamps of messages that never came, though a message names them or a peer had them; and since when no connected peer can send
-    /// each of them. How many of them are lost. When the author was last connected.
+    /// The upper ends of the gaps: the stamps of messages that did not come, though the next one names them; and since when no connected
+    /// peer can send each of them. How many are lost. When the author was last connected.
     lacking: BTreeMap<u64, Time>,
     pub lost: u64,
     seen: Time,
     /// Some peer is not waited for any more.
     pub has_stalled: bool,
-    bounds: Bounds,
+    pub bounds: Bounds,
     pub bucket: Bucket,
     pub views: Vec<View>,
-    pub feeder: Option<usize>,
-    /// When the feeder got room, and when it last brought something new.
-    granted: Time,
-    brought: Time,
-    /// Since when others show something that is missing here, and its stamp.
-    short: Option<(Time, u64)>,
+    pub asks: Asks,
     /// A peer is waited for; and how many bytes are left until one is.
     pub is_held: bool,
     left: u64,
@@ -59,10 +55,7 @@ impl Log {
             bounds: bounds.clone(),
             bucket: Bucket::new(bounds.rate, bounds.burst),
             views: Vec::new(),
-            feeder: None,
-            granted: 0,
-            brought: 0,
-            short: None,
+            asks: Asks::default(),
             is_held: false,
             left: bounds.behind,
             patience: Patience::new(bounds.patience),
@@ -80,22 +73,16 @@ impl Log {
     pub fn connect(&mut self, peer: usize, links: &mut Links) {
         let view = &mut self.views[peer];
         view.session = Session::new(self.kept.top());
-        view.ahead = 0;
+
         self.queue_report(peer, links);
     }
 
     pub fn disconnect(&mut self, now: Time, peer: usize) {
-        if self.feeder == Some(peer) {
-            // Whoever showed what it did not bring is blamed, however the grant ends.
-            if peer != self.author && self.shown(peer).is_some() {
-                self.views[peer].bar.fail(now, 0);
-            }
-            self.feeder = None;
-        }
         if peer == self.author {
             self.seen = now;
         }
         let view = &mut self.views[peer];
+        view.is_asked = false;
         let session = std::mem::replace(&mut view.session, Session::new(0));
         view.past = session.theirs.map(|it| it.coverage).or(view.past.take());
     }
@@ -120,13 +107,10 @@ impl Log {
 
     /// Replaces a peer's report.
     pub fn hear(&mut self, now: Time, peer: usize, report: Report) {
-        if !self.kept.has(report.since) {
-            self.note_lacking(report.since);
-        }
         self.views[peer].hear(now, report, &self.kept, self.bounds.pace);
     }
 
-    /// Notes a stamp that did not come. What is before the first that came was before this relay's time.
+    /// Notes the upper end of a gap. What is before the first message that came was before this relay's time.
     fn note_lacking(&mut self, stamp: u64) {
         let first = match self.kept.floor() {
             0 => self.kept.get(0).map_or(u64::MAX, |it| it.stamp),
@@ -188,31 +172,20 @@ impl Log {
         }
         self.note_arrived(prev, stamp, &gone, links);
         self.patience.renew(now, size, self.bounds.pace);
-        let is_fed = from.is_some() && self.feeder == from;
-        if is_fed {
-            self.note_brought(now, stamp, size);
+        if let Some(from) = from.filter(|it| self.is_asked(*it)) {
+            self.note_brought(now, from, stamp, size);
         }
         if arrived == Arrived::Passed {
             return (arrived, false);
         }
         from.into_iter().for_each(|it| self.views[it].session.note_brought(stamp, size));
-        let mut ahead = None;
         for peer in 0..self.views.len() {
-            if !links.each[peer].is_connected {
-                continue;
+            if links.each[peer].is_connected {
+                let has = self.views[peer].session.has(stamp);
+                self.offer(now, peer, (stamp, size, has), links);
             }
-            let view = &mut self.views[peer];
-            let has = view.session.has(stamp);
-            if is_fed && from != Some(peer) && view.compare(now, has) {
-                ahead = Some(peer);
-            }
-            self.offer(now, peer, (stamp, size, has), links);
         }
         self.unchecked += size;
-        if ahead.is_some() && self.feeder != Some(self.author) {
-            self.feed_from(now, ahead, links);
-            return (arrived, true);
-        }
         (arrived, self.unchecked >= self.bounds.behind / 16)
     }
 
@@ -243,16 +216,6 @@ impl Log {
         self.lost += (before - self.lacking.len()) as u64;
     }
 
-    /// The feeder brought something new. What is below the missing stamp shows that it is on its way there, and not slow.
-    fn note_brought(&mut self, now: Time, stamp: u64, size: u64) {
-        self.brought = now;
-        if let Some((since, missing)) = &mut self.short {
-            let more = size * self.bounds.slow / self.bounds.room;
-            let more = if stamp < *missing { more } else { 0 };
-            *since = (self.granted.max(*since) + more).min(now);
-        }
-    }
-
     /// Sends a peer what is new, or reports it: soon if the peer lacks it, at once if much came, and else at leisure.
     fn offer(
         &mut self,
@@ -261,10 +224,9 @@ impl Log {
         (stamp, size, has): (u64, u64, bool),
         links: &mut Links,
     ) {
-        let gaps =
-            self.views[peer].session.theirs.as_ref().map_or(0, |it| it.coverage.spans().len());
+        let View { session, is_asked, .. } = &mut self.views[peer];
+        let gaps = session.theirs.as_ref().map_or(0, |it| it.coverage.spans().len());
         let join = self.bounds.join * (1 + gaps as u64 / 2);
-        let session = &mut self.views[peer].session;
         let (may_send, is_news) = session.note(stamp, size, has);
         if is_news && session.news_due == NEVER {
             // Who is first spares the other its report.
@@ -273,7 +235,7 @@ impl Log {
         }
         session.lazy_due = session.lazy_due.min(now + self.bounds.lazy);
         self.wake = self.wake.min(session.wake());
-        let most = match self.feeder == Some(peer) {
+        let most = match is_asked {
             true => session.room.min(self.bounds.room) / 4,
             false => self.bounds.behind / 4,
         };
@@ -306,10 +268,8 @@ impl Log {
             true => self.bounds.nobody,
             false => self.bounds.somebody,
         };
-        // Who is barred does not bring what it shows.
         let views = links.others(None).map(|it| &self.views[it]);
-        let free = views.filter(|it| it.bar.until(now).is_none());
-        let reports: Vec<_> = free.filter_map(|it| it.session.theirs.as_ref()).collect();
+        let reports: Vec<_> = views.filter_map(|it| it.session.theirs.as_ref()).collect();
         for (stamp, since) in &mut self.lacking {
             let can_send = |it: &&Report| it.since < *stamp && it.coverage.has(*stamp);
             let can_come = reports.is_empty() || reports.iter().any(can_send);
@@ -346,7 +306,7 @@ impl Log {
             self.wake = self.wake.min(end);
         }
         if self.is_held && !is_held {
-            self.granted = now;
+            self.excuse(now);
         }
         self.is_held = is_held;
         self.has_stalled = self.views.iter().any(|it| it.is_stalled);
@@ -370,119 +330,37 @@ impl Log {
         }
     }
 
-    /// Decides who feeds this relay.
-    fn choose(&mut self, now: Time, links: &mut Links) {
-        let Some(feeder) = self.feeder else {
-            let best = self.best(now, None, links);
-            if best.is_some() {
-                self.feed_from(now, best, links);
-            }
-            return;
-        };
-        let missing = self.missing(now, feeder, links);
-        // While the author is at the end of its rate nobody is judged.
-        let is_judged = self.bucket.level(now) >= self.bounds.room;
-        self.short = match (missing, self.short) {
-            (Some(_), Some(short)) if is_judged && self.lacks_still(short.1) => Some(short),
-            (Some(stamp), _) if is_judged => Some((now, stamp)),
-            _ => None,
-        };
-        if let Some((since, _)) = self.short {
-            let slack = 2 * links.each[feeder].round_trip.min(SECOND / 4);
-            let (idle, slow) = (self.bounds.idle + slack, self.bounds.slow + slack);
-            // It has failed if nothing new comes for a while, and at last if that does not come.
-            let from = since.max(self.granted);
-            let end = (from.max(self.brought) + idle).min(from + slow);
-            if now < end {
-                self.wake = self.wake.min(end);
-                return;
-            }
-            let is_blamed = self.shown(feeder).is_some();
-            let best = self.best(now, Some(feeder), links);
-            if is_blamed {
-                self.views[feeder].bar.fail(now, 0);
-            }
-            self.feed_from(now, best, links);
-        } else if missing.is_none()
-            && feeder != self.author
-            && links.each[self.author].is_connected
-            && self.views[self.author].bar.until(now).is_none()
-        {
-            self.feed_from(now, Some(self.author), links);
-        }
-    }
-
-    /// The least stamp that peers show beside the feeder. Those that are barred do not count, and are looked at again when they are
-    /// free.
-    fn missing(&mut self, now: Time, feeder: usize, links: &Links) -> Option<u64> {
-        let mut missing = None;
-        for peer in links.others(Some(feeder)) {
-            let Some(stamp) = self.shown(peer) else { continue };
-            self.note_lacking(stamp);
-            match self.views[peer].bar.until(now) {
-                Some(end) => self.wake = self.wake.min(end),
-                None => missing = Some(missing.map_or(stamp, |it: u64| it.min(stamp))),
-            }
-        }
-        missing
-    }
-
-    /// Whether a stamp that a peer showed is not in the report still.
-    fn lacks_still(&mut self, stamp: u64) -> bool {
-        !self.kept.report().has(stamp)
-    }
-
     /// The least stamp that a peer shows and that is wanted.
-    fn shown(&mut self, peer: usize) -> Option<u64> {
+    pub fn shown(&mut self, peer: usize) -> Option<u64> {
         let report = self.kept.report();
         let limit = if self.is_held { top(report) } else { u64::MAX };
         self.views[peer].session.shows(report, limit)
     }
 
-    /// The best of those that show something; if none does, the author unless it is barred. Barred ones come last, the soonest free
-    /// first.
-    fn best(&mut self, now: Time, but: Option<usize>, links: &Links) -> Option<usize> {
-        let ranks = links.others(but).map(|peer| {
-            let shows = self.shown(peer).is_some();
-            let View { bar, ahead, .. } = &self.views[peer];
-            let until = bar.until(now).unwrap_or(0);
-            let rank = (bar.failures, u32::MAX - ahead, links.each[peer].round_trip, peer);
-            (!shows, until, peer != self.author, rank)
-        });
-        let ranks = ranks.filter(|it| !it.0 || (it.1 == 0 && !it.2));
-        ranks.min().map(|(.., rank)| rank.3)
-    }
-
-    fn feed_from(&mut self, now: Time, peer: Option<usize>, links: &mut Links) {
-        let old = std::mem::replace(&mut self.feeder, peer);
-        (self.granted, self.brought, self.short) = (now, 0, None);
-        // A new feeder is judged from then on.
-        self.wake = self.wake.min(now + self.bounds.idle);
-        self.views.iter_mut().for_each(|it| it.ahead = 0);
-        if let Some(old) = old.filter(|&it| Some(it) != peer) {
-            self.queue_report(old, links);
-        }
-    }
-
     /// The room that a peer has now.
     fn room(&mut self, now: Time, peer: usize) -> u64 {
+        if !self.views[peer].is_asked {
+            return 0;
+        }
         let (level, bounds) = (self.bucket.level(now), &self.bounds);
-        if self.feeder != Some(peer) || level < bounds.burst / 8 {
+        if level < bounds.burst / 8 {
             return 0;
         }
         bounds.room.min(level).min(self.left.max(bounds.step()))
     }
 
-    /// Reports to the feeder that it has room, or has none.
+    /// Reports to each peer whether it has room now, if that has changed.
     fn grant(&mut self, now: Time, links: &mut Links) {
-        let Some(feeder) = self.feeder else { return };
-        let room = self.room(now, feeder);
-        if room == 0 {
-            self.wake = self.wake.min(self.bucket.when(now, self.bounds.burst / 8));
-        }
-        let known = &self.views[feeder].session;
-        if (known.room == 0) != (room == 0) || known.is_told_held != self.is_held {
-            self.queue_report(feeder, links);
+        for peer in 0..self.views.len() {
+            let room = self.room(now, peer);
+            let session = &self.views[peer].session;
+            let is_news = (session.room == 0) != (room == 0);
+            if self.views[peer].is_asked && room == 0 {
+                self.wake = self.wake.min(self.bucket.when(now, self.bounds.burst / 8));
+            }
+            if is_news || (room > 0 && session.is_told_held != self.is_held) {
+                self.queue_report(peer, links);
+            }
         }
     }
 

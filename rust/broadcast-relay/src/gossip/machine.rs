@@ -147,11 +147,13 @@ impl Machine {
         let peers: Vec<usize> = self.listed().into_iter().filter(|it| *it != self.own).collect();
         let has_reported = |it: &&usize| self.links.each[**it].has_reported;
         let count = peers.iter().filter(has_reported).count();
-        // Who is barred has claimed what it does not bring.
+        // Who was asked for a while has claimed what it does not bring.
+        let slow = self.bounds.slow;
         let own = &mut self.logs[self.own];
         let report = own.kept.report();
         let shows = |it: &View| it.session.shows(report, u64::MAX).is_some();
-        let is_claimed = |it: &View| it.bar.until(now).is_none() && shows(it);
+        let has_failed = |it: &View| it.is_asked && now >= it.asked_at + slow;
+        let is_claimed = |it: &View| shows(it) && !has_failed(it);
         let is_behind = own.views.iter().any(is_claimed);
         let start = &mut self.start;
         let began = *start.began.get_or_insert(now);

@@ -9,8 +9,8 @@
 //! and replaces older ones, so reports may be late, joined or repeated. What a peer reports decides only what it is sent, and whom
 //! a relay lets bring what it lacks.
 //!
-//! - **Feeder.** Of each author one peer at a time has room, so a message comes once. A feeder that does not bring what others
-//!   report is replaced, and barred for a while if it had reported the message itself.
+//! - **Asks.** Of each author one peer is *asked*: it has room, so a message comes once. While something does not come that others
+//!   report, as many peers more are asked as are asked already, in turn. Once it came, who brought the last of it is asked alone.
 //! - **Hold.** While a peer that is waited for lacks more than `behind` bytes of an author's list, the author is *held*: its own
 //!   relay reads no input, and others report that they want nothing above the top of their coverage. A gap can always be filled,
 //!   so relays never wait for each other in a circle.
@@ -23,6 +23,7 @@
 //!
 //! Nothing here has a clock: times are arguments. Nothing is shared between authors but a peer's turns.
 
+mod asks;
 mod kept;
 mod links;
 mod log;
@@ -76,7 +77,7 @@ pub struct Bounds {
     /// How long a report is delayed for a peer that lacks something, and for any other.
     pub join: Time,
     pub lazy: Time,
-    /// How long a feeder may bring nothing, and how long a message may be lacking, while others report it.
+    /// How long those that are asked may bring nothing, and how long a message may be lacking, while others report it.
     pub idle: Time,
     pub slow: Time,
     /// After what time is lost what no peer can send, if the author is connected or was not for long; and else.
@@ -98,8 +99,8 @@ impl Default for Bounds {
             pace: 64 << 10,
             join: 10_000,
             lazy: 200_000,
-            idle: 20_000,
-            slow: SECOND,
+            idle: 30_000,
+            slow: SECOND / 2,
             nobody: 2 * SECOND,
             somebody: 60 * SECOND,
         }

@@ -1,6 +1,6 @@
 //! A connection of a peer, as far as one author's log goes.
 
-use super::kept::{Kept, is_cut, top, up_to};
+use super::kept::{Kept, is_cut, shows, top, up_to};
 use super::{Bounds, Coverage, Message, NEVER, Report, Time};
 use std::collections::HashSet;
 
@@ -98,7 +98,7 @@ impl Session {
 
     /// Whether the peer has a message, as far as it reported or brought it.
     pub fn has(&self, stamp: u64) -> bool {
-        self.theirs.as_ref().is_some_and(|it| it.coverage.has(stamp))
+        self.theirs.as_ref().is_some_and(|it| shows(&it.coverage, stamp))
             || self.flight(stamp).is_some_and(|it| it.number == 0)
     }
 
@@ -140,21 +140,21 @@ impl Session {
         if self.takes_back(&report) {
             return None;
         }
-        let mut landed = 0;
-        let mut stays = self.flights.iter().zip(&self.stamps).map(|(it, stamp)| {
-            let is_shown = report.coverage.has(*stamp);
-            landed += if is_shown && it.number > 0 { it.bytes } else { 0 };
-            !is_shown && (it.number == 0 || it.number > report.done)
-        });
-        let stays: Vec<bool> = stays.by_ref().collect();
-        let (mut one, mut other) = (stays.iter(), stays.iter());
-        self.stamps.retain(|_| one.next().is_some_and(|it| *it));
-        self.flights.retain(|_| other.next().is_some_and(|it| *it));
-        let sum = |is_sent: bool| {
-            let some = self.flights.iter().filter(|it| (it.number > 0) == is_sent);
-            some.map(|it| it.bytes).sum()
-        };
-        (self.in_flight, self.brought) = (sum(true), sum(false));
+        let (mut landed, mut place) = (0, 0);
+        let flights = std::mem::take(&mut self.flights);
+        let stamps = std::mem::take(&mut self.stamps);
+        let spans = report.coverage.spans();
+        (self.in_flight, self.brought) = (0, 0);
+        for (stamp, it) in stamps.into_iter().zip(flights) {
+            // Both rise.
+            place += spans[place..].iter().take_while(|it| it.to < stamp).count();
+            let is_above = stamp > report.coverage.floor();
+            if !is_above || spans.get(place).is_some_and(|it| it.from < stamp) {
+                landed += if it.number > 0 { it.bytes } else { 0 };
+            } else if it.number == 0 || it.number > report.done {
+                self.push(stamp, it);
+            }
+        }
         if !is_cut(&report.coverage) {
             self.passed = 0;
         }

@@ -1,11 +1,8 @@
-//! A peer, as far as one author's log goes: what it has, how it does as a feeder, and whether it is waited for.
+//! A peer, as far as one author's log goes: what it has, whether it is asked, and whether it is waited for.
 
-use super::pace::{Bar, Patience, Wait};
+use super::pace::{Patience, Wait};
 use super::session::Session;
 use super::{Bounds, Coverage, Kept, NEVER, Report, SECOND, Time};
-
-/// How often in a row, nearly, a peer must have reported a message before the feeder brought it, to take its place.
-const AHEAD: u32 = 32;
 
 #[derive(Debug)]
 pub struct View {
@@ -14,10 +11,9 @@ pub struct View {
     pub past: Option<Coverage>,
     /// When it last came nearer, whoever brought it what it lacked.
     moved: Time,
-    /// It is barred as a feeder if it had room, reported what is missing, and did not bring it.
-    pub bar: Bar,
-    /// How often in a row it was ahead of the feeder.
-    pub ahead: u32,
+    /// It is asked to bring what is new, and when it was last.
+    pub is_asked: bool,
+    pub asked_at: Time,
     pub patience: Patience,
     pub is_waited_for: bool,
     /// Its patience is over, so nobody waits for it until it is near again.
@@ -30,8 +26,8 @@ impl View {
             session: Session::new(0),
             past: None,
             moved: 0,
-            bar: Bar::default(),
-            ahead: 0,
+            is_asked: false,
+            asked_at: 0,
             patience: Patience::new(bounds.patience),
             is_waited_for: false,
             is_stalled: false,
@@ -51,13 +47,6 @@ impl View {
         if lacks(&self.session) < before {
             self.moved = now;
         }
-    }
-
-    /// The feeder brought a message, which this peer had reported before, or not. Returns whether it takes the feeder's place.
-    pub fn compare(&mut self, now: Time, was_first: bool) -> bool {
-        let ahead = if was_first { self.ahead + 1 } else { self.ahead.saturating_sub(2) };
-        self.ahead = ahead.min(AHEAD);
-        self.ahead == AHEAD && self.bar.until(now).is_none()
     }
 
     /// Decides whether the peer is waited for. Returns when its patience ends.

@@ -14,7 +14,7 @@ fn check(class: &str, world: World) -> Outcome {
     let outcome = world.run(true);
     let Outcome { wrong, what, copies, deliveries, .. } = &outcome;
     assert!(wrong.is_empty(), "{class}, {what}: {} of {}", wrong[0], wrong.len());
-    // Each message comes once, but for what is in flight when feeders change.
+    // Each message comes once, but for what is in flight when others are asked.
     let most = if ["crash", "mixed", "long"].contains(&class) { 1.6 } else { 1.25 };
     let is_few = *copies as f64 <= most * *deliveries as f64;
     assert!(*deliveries < 5_000 || is_few, "{class}, {what}: {copies} copies of {deliveries}");
@@ -362,7 +362,7 @@ fn a_gap_that_its_author_may_fill_is_lost_after_a_minute() {
     while relay.frame(0, 1).is_some() {}
     (1..=63).for_each(|it| assert_eq!(take(it, &mut relay, 1, apart(2, it)), Taken::New));
     relay.report(100, 1, 2, Report { since: 199, ..Report::up_to(200) });
-    for (now, lost) in [(59 * SECOND, 0), (61 * SECOND, 63)] {
+    for (now, lost) in [(59 * SECOND, 0), (61 * SECOND, 62)] {
         relay.timeout(now);
         assert_eq!(relay.log(2).lost, lost);
     }
@@ -393,7 +393,7 @@ fn who_brings_a_part_in_any_order_keeps_nothing_away() {
         let mut relay = machine(&Bounds::default(), 0, 3, None);
         relay.connect(0, 2, 100);
         if has_room {
-            // It shows all, and becomes the feeder.
+            // It shows all, and is asked.
             relay.report(0, 2, 1, Report::up_to(ALL));
             while relay.frame(0, 2).is_some() {}
         }
@@ -536,43 +536,104 @@ fn who_reports_all_and_nothing_by_turns_is_waited_for_once() {
     }
 }
 
-/// Who claims a message and takes that back, or ends its connection, once it is to bring the message, is barred like who keeps silent.
+/// Who claims a message and takes that back, or ends its connection, once it is asked for it, keeps nothing away that others bring.
 #[test]
-fn who_takes_a_claim_back_does_not_feed_again_and_again() {
+fn who_takes_a_claim_back_keeps_nothing_away() {
     for ends in [false, true] {
         let mut relay = machine(&Bounds::default(), 0, 4, None);
         relay.connect(0, 1, 100);
         relay.connect(0, 2, 100);
-        let report = |upto| Report::up_to(upto);
-        let (mut turns, mut had) = (0, 0);
+        let (mut had, mut latest) = (0, 0);
         for now in (1..1_000).map(|it| it * 10_000) {
-            // The honest peer brings what it has, if it is to; the other claims more, and never brings anything.
+            // The honest peer brings what it has, if it is asked; the other claims more, and never brings anything.
             let stamp = now / 10_000;
-            relay.report(now, 1, 3, report(stamp));
-            relay.report(now, 2, 3, report(stamp + 100));
-            if relay.log(3).feeder == Some(2) {
-                turns += 1;
+            relay.report(now, 1, 3, Report::up_to(stamp));
+            relay.report(now, 2, 3, Report::up_to(stamp + 100));
+            if relay.log(3).is_asked(2) {
                 match ends {
                     true => {
                         relay.disconnect(now, 2);
                         relay.connect(now, 2, 100);
                     }
-                    false => relay.report(now, 2, 3, report(0)),
+                    false => relay.report(now, 2, 3, Report::up_to(0)),
                 }
             }
             (1..3).for_each(|it| while relay.frame(now, it).is_some() {});
-            if relay.log(3).feeder == Some(1) {
+            if relay.log(3).is_asked(1) {
                 for stamp in had + 1..=stamp {
                     let bytes = vec![0; 90].into();
                     take(now, &mut relay, 1, Message { author: 3, stamp, prev: stamp - 1, bytes });
                 }
                 had = stamp;
             }
+            latest = latest.max(stamp - had);
             relay.timeout(now);
         }
-        // Ten seconds: it is barred for 1, 2, 4 s.
-        assert!(had > 900 && turns < 60, "ends {ends}: {had} {turns}");
+        // It is never waited for beyond what a peer has that was asked before.
+        assert!(had > 990 && latest <= 5, "ends {ends}: {had} {latest}");
     }
+}
+
+/// Gives a relay those messages of author 4 that it lacks and a peer brings.
+fn bring(now: u64, relay: &mut Machine, peer: usize, stamps: impl Iterator<Item = u64>) {
+    for stamp in stamps {
+        let message = Message { author: 4, stamp, prev: stamp - 1, bytes: vec![0; 900].into() };
+        if relay.log(4).is_asked(peer) && !relay.log(4).kept.has(stamp) {
+            assert_eq!(take(now, relay, peer, message), Taken::New);
+        }
+    }
+}
+
+/// Relay 0 with three peers, of which the first is asked first, and an author that is away.
+fn with_three_peers() -> Machine {
+    let mut relay = machine(&Bounds::default(), 0, 5, None);
+    (1..4).for_each(|it| relay.connect(0, it, 100 * it as u64));
+    relay
+}
+
+/// Each message that it brings is the one that is lacking, and in time for that. It once fed others for ever.
+#[test]
+fn who_brings_all_but_slowly_is_not_asked_alone() {
+    let mut relay = with_three_peers();
+    let mut came = 0;
+    for now in (1..200).map(|it| it * 10_000) {
+        relay.report(now, 1, 4, Report::up_to(100));
+        relay.report(now, 2, 4, Report::up_to(100));
+        (1..4).for_each(|it| while relay.frame(now, it).is_some() {});
+        let top = relay.log(4).kept.top();
+        if now % 100_000 == 0 {
+            bring(now, &mut relay, 1, top + 1..=top + 1);
+        }
+        bring(now, &mut relay, 2, 1..=100);
+        relay.timeout(now);
+        came += if relay.log(4).kept.len() < 100 { 10_000 } else { 0 };
+    }
+    assert!(came < SECOND, "{came}");
+    // Who brought the last of it is asked from now on.
+    assert!(relay.log(4).is_asked(2) && !relay.log(4).is_asked(1));
+}
+
+/// Two peers that agreed upon what they do not bring.
+#[test]
+fn who_brings_all_but_one_keeps_nothing_away() {
+    let mut relay = with_three_peers();
+    let mut late = Vec::new();
+    for stamp in 1..600 {
+        let now = stamp * 10_000;
+        (1..4).for_each(|it| relay.report(now, it, 4, Report::up_to(stamp)));
+        (1..4).for_each(|it| while relay.frame(now, it).is_some() {});
+        for peer in 1..3 {
+            bring(now, &mut relay, peer, (1..=stamp).filter(|it| it % 50 > 0));
+        }
+        bring(now, &mut relay, 3, 1..=stamp);
+        relay.timeout(now);
+        let kept = &relay.log(4).kept;
+        late.extend((50..=stamp).step_by(50).filter(|it| !kept.has(*it)).map(|it| stamp - it));
+    }
+    // The first is late, by half a second for each peer more. Who brought it is asked for the others.
+    let kept = &relay.log(4).kept;
+    assert!((1..600).all(|it| kept.has(it)), "{:?}", stamps(&relay, 4));
+    assert!(late.iter().max() <= Some(&102) && late.len() < 160, "{late:?}");
 }
 
 /// Each lacks more of the other's list than it waits for, and both are held: a gap is filled all the same, at once.
