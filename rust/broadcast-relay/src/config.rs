@@ -1,6 +1,6 @@
 //! The configuration, a TOML file.
 
-use crate::gossip::{Bounds, CHARGE};
+use crate::gossip::{Bounds, CHARGE, SECOND};
 use crate::identity::{Identity, PeerId};
 use crate::message::MAX_MESSAGE;
 use crate::output::{Form, MAX_WAITING};
@@ -60,6 +60,8 @@ pub struct Limits {
     pub author_messages_per_second: u64,
     pub author_bytes_per_second: u64,
     pub author_signatures_per_second: u64,
+    /// For how long an author waits for a peer that stands still.
+    pub patience_seconds: u64,
     /// The most connections that have proved no key, in all and of one address.
     pub handshakes: u64,
     pub handshakes_per_address: u64,
@@ -72,6 +74,7 @@ impl Default for Limits {
             author_messages_per_second: 10_000,
             author_bytes_per_second: 8 << 20,
             author_signatures_per_second: 1_000,
+            patience_seconds: 6,
             handshakes: 512,
             handshakes_per_address: 64,
         }
@@ -96,6 +99,7 @@ impl Limits {
             rate,
             burst,
             least: rate / self.author_messages_per_second,
+            patience: self.patience_seconds * SECOND,
             ..Bounds::default()
         }
     }
@@ -174,16 +178,18 @@ impl Config {
         }
         let limits = &self.limits;
         let needed = [
-            ("bytes_per_peer", limits.bytes_per_peer, 1 << 20),
-            ("author_messages_per_second", limits.author_messages_per_second, 1),
-            ("author_bytes_per_second", limits.author_bytes_per_second, MAX_MESSAGE as u64),
-            ("author_signatures_per_second", limits.author_signatures_per_second, 1),
-            ("handshakes_per_address", limits.handshakes_per_address, 1),
-            ("handshakes", limits.handshakes, limits.handshakes_per_address),
+            ("bytes_per_peer", limits.bytes_per_peer, 1 << 20..=MOST),
+            ("author_messages_per_second", limits.author_messages_per_second, 1..=MOST),
+            ("author_bytes_per_second", limits.author_bytes_per_second, MAX_MESSAGE as u64..=MOST),
+            ("author_signatures_per_second", limits.author_signatures_per_second, 1..=MOST),
+            ("patience_seconds", limits.patience_seconds, 1..=24 * 3_600),
+            ("handshakes_per_address", limits.handshakes_per_address, 1..=MOST),
+            ("handshakes", limits.handshakes, limits.handshakes_per_address..=MOST),
         ];
-        match needed.iter().find(|(_, value, least)| !(*least..=MOST).contains(value)) {
-            Some((name, value, least)) => {
-                Err(format!("{name} is {value}, and has to be at least {least}, at most {MOST}"))
+        match needed.iter().find(|(_, value, range)| !range.contains(value)) {
+            Some((name, value, range)) => {
+                let (least, most) = (range.start(), range.end());
+                Err(format!("{name} is {value}, and has to be at least {least}, at most {most}"))
             }
             None => Ok(()),
         }
@@ -282,6 +288,7 @@ mod tests {
             ("[limits]\nbytes_per_peer = 10".into(), "at least"),
             ("[limits]\nbytes_per_peer = 9000000000000000000".into(), "at most"),
             ("[limits]\nhandshakes = 3".into(), "at least"),
+            ("[limits]\npatience_seconds = 100000".into(), "at most"),
             ("[limits]\nhandshake = 3".into(), "unknown field"),
         ] {
             let said = Config::parse(&format!("{good}{rest}")).unwrap_err();

@@ -409,7 +409,8 @@ fn a_text_is_printed_as_it_was_typed_if_asked_for() {
 /// A peer stands still for longer than it is waited for, and what it lacks leaves the list of an author at full speed.
 #[test]
 fn what_is_lost_is_counted_and_logged() {
-    let mut relays = pair("lost");
+    let limits = "[limits]\npatience_seconds = 2";
+    let mut relays = Relay::wired(&Lab::loopback(), &folder("lost"), 2, &[], limits, |_, _| true);
     relays.iter_mut().for_each(Relay::start);
     wait_for("connected", || relays[0].is_connected("r1"));
     relays[0].write("first");
