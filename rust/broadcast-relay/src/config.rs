@@ -197,11 +197,11 @@ impl Config {
 
     /// A bound on the resident memory, in bytes, for as long as no peer is added.
     ///
-    /// Of each author there are a list, and lines that wait for the output; of each peer what is read and written at once, what TLS keeps,
-    /// and what is known of it for each author. A start reads one file of a journal at a time.
+    /// Of each author there are a list, what log and journal know of each message, and lines that wait for the output; of each peer
+    /// what is read and written at once, what TLS keeps, and what is known of it for each author. A start reads one journal at a time.
     pub fn memory_bound(&self) -> u64 {
         let (peers, limits) = (self.peers.len() as u64, &self.limits);
-        let author = 2 * limits.bytes_per_peer + 2 * MAX_WAITING as u64;
+        let author = 3 * limits.bytes_per_peer + 2 * MAX_WAITING as u64;
         // A report, and what is known of each message that is in flight, or that came since the last report.
         let view = 4_096 + 24 * (limits.bounds().room + limits.bytes_per_peer / 8) / CHARGE;
         let peer = (1 << 20) + (peers + 1) * view;

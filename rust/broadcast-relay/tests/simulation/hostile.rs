@@ -15,18 +15,19 @@ impl World {
                 Some(Frame::Report(author, self.bend_report(kind, (from, to), author, report)))
             }
             Frame::Message(message) if message.author != from => {
-                self.brings(kind, from, to).then_some(Frame::Message(message))
+                self.brings(kind, (from, to), message.stamp).then_some(Frame::Message(message))
             }
             frame => Some(frame),
         }
     }
 
     /// Whether it sends a message of another author.
-    fn brings(&mut self, kind: Kind, from: usize, to: usize) -> bool {
-        let link = self.links.get_mut(&(from, to)).unwrap();
+    fn brings(&mut self, kind: Kind, link: (usize, usize), stamp: u64) -> bool {
+        let link = self.links.get_mut(&link).unwrap();
         match kind {
             Kind::Mute | Kind::Sly | Kind::Turns | Kind::Part | Kind::Push => false,
             Kind::Tenth => self.random.chance(10),
+            Kind::Pact => !Random::new(stamp).chance(1),
             Kind::Drip if self.now < link.last_drip + SECOND => false,
             Kind::Drip => {
                 link.last_drip = self.now;

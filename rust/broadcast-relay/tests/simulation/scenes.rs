@@ -5,7 +5,7 @@ use broadcast_relay::gossip::{Bounds, Message, Past, SECOND};
 use bytes::Bytes;
 
 /// Those without hostile relays first.
-pub const CLASSES: [&str; 29] = [
+pub const CLASSES: [&str; 30] = [
     "calm",
     "slow",
     "pause",
@@ -35,10 +35,11 @@ pub const CLASSES: [&str; 29] = [
     "push",
     "turns",
     "tenth",
+    "pact",
 ];
-const HONEST: usize = 12;
+pub const HONEST: usize = 12;
 
-const HOSTILE: [Kind; 15] = [
+const HOSTILE: [Kind; 16] = [
     Kind::Silent,
     Kind::Mute,
     Kind::Sly,
@@ -54,6 +55,7 @@ const HOSTILE: [Kind; 15] = [
     Kind::Push,
     Kind::Turns,
     Kind::Tenth,
+    Kind::Pact,
 ];
 
 /// How long bodies are.
@@ -233,6 +235,8 @@ impl World {
         let kind = HOSTILE.into_iter().find(|it| format!("{it:?}").to_lowercase() == class);
         let many = match class {
             "swarm" => count * 3 / 4,
+            // At least two, if the others are joined without them.
+            "pact" => 2 + count / 4,
             "mixed" if count > 3 => self.random.between(1, (count / 4).max(1)),
             _ if kind.is_some() => self.random.between(1, (count / 4).max(1)),
             _ => 0,

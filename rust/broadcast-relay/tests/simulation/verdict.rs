@@ -2,6 +2,7 @@
 
 use crate::world::{FULL, World};
 use broadcast_relay::gossip::SECOND;
+use std::collections::HashMap;
 
 #[derive(Default)]
 pub struct Outcome {
@@ -17,6 +18,9 @@ pub struct Outcome {
     /// How long deliveries took, in simulated milliseconds, of slow authors and of fast ones.
     pub slow_ages: Vec<u32>,
     pub full_ages: Vec<u32>,
+    /// When what slow authors said came, by relay, author and stamp; and how many answers of the library were compared.
+    pub came: HashMap<(usize, usize, u64), u64>,
+    pub compared: u64,
 }
 
 impl Outcome {
@@ -33,6 +37,29 @@ impl World {
         wrong.sort();
         self.outcome.wrong.extend(wrong);
         self.outcome.lost = lost;
+        for (number, node) in self.nodes.iter().enumerate().filter(|it| it.1.is_honest()) {
+            self.outcome.compared += node.model.as_ref().map_or(0, |it| it.compared);
+            let is_slow = |author: usize| self.nodes[author].rate != FULL;
+            let slow = node.seen.iter().filter(|it| is_slow(it.0.0));
+            self.outcome
+                .came
+                .extend(slow.map(|((author, stamp), at)| ((number, *author, *stamp), *at)));
+        }
+    }
+
+    /// How many hops honest relays are apart, over honest ones.
+    pub fn hops(&self, from: usize) -> HashMap<usize, u64> {
+        let mut hops = HashMap::from([(from, 0)]);
+        let mut next = std::collections::VecDeque::from([from]);
+        while let Some(node) = next.pop_front() {
+            for &peer in self.near[node].iter().filter(|it| self.nodes[**it].is_honest()) {
+                if !hops.contains_key(&peer) {
+                    hops.insert(peer, hops[&node] + 1);
+                    next.push_back(peer);
+                }
+            }
+        }
+        hops
     }
 
     /// What is wrong now, and how many deliveries are lacking.

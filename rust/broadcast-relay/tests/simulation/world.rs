@@ -1,6 +1,7 @@
 //! A world of relays: connections with delay, bandwidth and a window; pauses, crashes, broken connections; hostile relays. All of it
 //! follows from the class of a run and its seed.
 
+use crate::model::Model;
 use crate::scenes::Scene;
 use crate::verdict::Outcome;
 use broadcast_relay::gossip::{
@@ -76,6 +77,8 @@ pub enum Kind {
     Turns,
     /// Reports everything, and brings one of ten messages of others.
     Tenth,
+    /// Brings all of others but some, which are the same for all of its kind.
+    Pact,
     /// Is not there, as in the twin of a run.
     Absent,
 }
@@ -135,6 +138,8 @@ pub struct Node {
     pub crashed: Vec<u64>,
     /// When it lost its journal last.
     pub forgot: u64,
+    /// What its log is to answer, if that is compared.
+    pub model: Option<Model>,
 }
 
 impl Node {
@@ -152,6 +157,7 @@ impl Node {
             seen: HashMap::new(),
             crashed: Vec::new(),
             forgot: 0,
+            model: None,
         }
     }
 
@@ -342,6 +348,7 @@ impl World {
             (link.is_up, link.transit, link.free) = (true, 0, self.now);
             let round_trip = 2 * link.delay;
             self.nodes[from].machine.as_mut().unwrap().connect(self.now, to, round_trip);
+            self.nodes[from].model.iter_mut().for_each(|it| it.connect(to));
         }
         self.after(one);
         self.after(other);
@@ -384,6 +391,10 @@ impl World {
         };
         node.journal = has_journal.then(|| (0..count).map(past).collect());
         node.crashed.push(self.now);
+        if !has_journal || !node.has_published {
+            let author = has_journal.then_some(number);
+            node.model.iter_mut().for_each(|it| it.forget(author));
+        }
         if !has_journal {
             node.seen.clear();
             node.forgot = self.now;
@@ -440,13 +451,28 @@ impl World {
         let now = self.now;
         let is_honest = self.nodes[to].is_honest();
         let are_honest = is_honest && self.nodes[from].is_honest();
-        let machine = self.nodes[to].machine.as_mut().unwrap();
+        let Node { machine, model, .. } = &mut self.nodes[to];
+        let machine = machine.as_mut().unwrap();
         match frame {
-            Frame::Report(author, report) => machine.report(now, from, author, report),
+            Frame::Report(author, report) => {
+                let kept = &machine.log(author).kept;
+                model.iter_mut().for_each(|it| it.hear(from, author, &report, kept));
+                machine.report(now, from, author, report);
+            }
             Frame::Message(message) => {
                 let id = (message.author, message.stamp);
+                let (prev, len) = (message.prev, message.bytes.len());
                 let is_wanted = machine.wants(now, from, &message);
                 let taken = machine.message(now, Some(from), message, is_wanted)?;
+                if let Some(model) = model {
+                    if taken == Taken::New {
+                        model.note(id.0, prev, id.1, len);
+                        model.judge_log(id.0, &machine.log(id.0).kept);
+                    }
+                    if taken != Taken::LeftOut {
+                        model.bring(from, id.0, id.1);
+                    }
+                }
                 self.outcome.copies += u64::from(are_honest && self.nodes[id.0].is_honest());
                 if is_honest && taken == Taken::New {
                     self.deliver(to, id);
@@ -509,8 +535,15 @@ impl World {
                 }
                 return;
             }
-            let machine = self.nodes[from].machine.as_mut().unwrap();
+            let Node { machine, model, .. } = &mut self.nodes[from];
+            let machine = machine.as_mut().unwrap();
             let Some(frame) = machine.frame(now, to) else { return };
+            if let (Some(model), Frame::Report(author, _)) = (&mut *model, &frame) {
+                model.judge_frame(to, &frame, &machine.log(*author).kept);
+            }
+            if let (Some(model), Frame::Message(it)) = (model, &frame) {
+                model.judge_frame(to, &frame, &machine.log(it.author).kept);
+            }
             if let Some(frame) = self.bend(from, to, frame) {
                 self.send(from, to, frame);
             }
@@ -561,6 +594,7 @@ impl World {
         let machine = node.machine.as_mut().unwrap();
         let (prev, stamp) = machine.next_own(now);
         machine.publish(now, prev, stamp, vec![0; len as usize].into());
+        node.model.iter_mut().for_each(|it| it.note(number, prev, stamp, len as usize));
         node.has_published = true;
         self.born.insert((number, stamp), now);
         self.outcome.published += 1;
