@@ -40,6 +40,7 @@ pub struct Intake {
     pub earlier: Notify,
     published: AtomicU64,
     elsewhere: AtomicU64,
+    wakes: AtomicU64,
     own: Arc<Peer>,
     shared: Mutex<Shared>,
     opened: Notify,
@@ -145,6 +146,7 @@ impl Intake {
             earlier: Notify::new(),
             published: AtomicU64::new(0),
             elsewhere: AtomicU64::new(0),
+            wakes: AtomicU64::new(0),
             shared: Mutex::new(shared),
             opened: Notify::new(),
             is_ending: AtomicBool::new(false),
@@ -241,6 +243,7 @@ impl Intake {
 
     /// Does what is due by now.
     pub fn timeout(&self, now: Time) {
+        self.wakes.fetch_add(1, Relaxed);
         self.act(now, |shared, now| shared.machine.timeout(now));
     }
 
@@ -470,6 +473,11 @@ impl Intake {
     /// How many messages came that have this relay's key, are newer than its first one, and were published elsewhere.
     pub fn elsewhere(&self) -> u64 {
         self.elsewhere.load(Relaxed)
+    }
+
+    /// How often [`Intake::timeout`] was called.
+    pub fn wakes(&self) -> u64 {
+        self.wakes.load(Relaxed)
     }
 
     /// How many connected peers lack own messages, as far as they have said.

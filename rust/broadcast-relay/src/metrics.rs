@@ -52,6 +52,7 @@ pub fn page(network: &Network) -> String {
         ("handshakes", "Connections that have proved no key", met.handshakes.load(Relaxed)),
         ("published_total", "Own messages", intake.published()),
         ("elsewhere_total", "Published elsewhere by this key", intake.elsewhere()),
+        ("wakes_total", "How often something was due", intake.wakes()),
         ("strangers_total", "Who proved no listed key", met.strangers.load(Relaxed)),
         ("pushed_out_total", "Handshakes that lost a place", met.pushed_out.load(Relaxed)),
         ("turned_away_total", "Who got no place", met.turned_away.load(Relaxed)),

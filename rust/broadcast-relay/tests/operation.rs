@@ -269,17 +269,6 @@ fn a_file_arrives_over_a_long_link_that_breaks() {
     assert!(relays.iter_mut().all(Relay::terminate));
 }
 
-/// How often the threads of a relay were woken.
-fn wakes(relay: &Relay) -> u64 {
-    let tasks = fs::read_dir(format!("/proc/{}/task", relay.id())).unwrap();
-    let wakes = tasks.map(|it| {
-        let status = fs::read_to_string(it.unwrap().path().join("status")).unwrap();
-        let line = status.lines().find_map(|it| it.strip_prefix("voluntary_ctxt_switches:"));
-        line.unwrap().trim().parse::<u64>().unwrap()
-    });
-    wakes.sum()
-}
-
 /// They once cost fifty wakes a second each. A slow machine makes fewer.
 #[test]
 fn authors_that_are_away_wake_nobody() {
@@ -292,11 +281,11 @@ fn authors_that_are_away_wake_nobody() {
     relays[1].write("said");
     wait_for("the line", || relays[0].has_printed("r1", "said"));
     sleep(Duration::from_secs(2));
-    let (before, start) = (wakes(&relays[0]), Instant::now());
+    let wakes = || relays[0].metric("relay_wakes_total");
+    let (before, start) = (wakes(), Instant::now());
     sleep(Duration::from_secs(5));
-    let (woken, seconds) = (wakes(&relays[0]) - before, start.elapsed().as_secs() + 1);
-    println!("{woken} wakes in {seconds} s");
-    assert!(woken < 50 * seconds, "{woken} wakes in {seconds} s");
+    let (woken, seconds) = (wakes() - before, start.elapsed().as_secs_f64() + 1.0);
+    assert!(woken < 20.0 * seconds, "{woken} wakes in {seconds} s");
 }
 
 /// As after the copy of a folder or a machine: both connect to a third, which each time ends the other's connection.
