@@ -269,7 +269,7 @@ fn a_file_arrives_over_a_long_link_that_breaks() {
     assert!(relays.iter_mut().all(Relay::terminate));
 }
 
-/// They once cost fifty wakes a second each. A slow machine makes fewer.
+/// Where nobody says anything a relay wakes once a second. A slow machine wakes no more often.
 #[test]
 fn authors_that_are_away_wake_nobody() {
     let mut relays = pair("away");
@@ -285,7 +285,7 @@ fn authors_that_are_away_wake_nobody() {
     let (before, start) = (wakes(), Instant::now());
     sleep(Duration::from_secs(5));
     let (woken, seconds) = (wakes() - before, start.elapsed().as_secs_f64() + 1.0);
-    assert!(woken < 20.0 * seconds, "{woken} wakes in {seconds} s");
+    assert!(woken < 3.0 * seconds, "{woken} wakes in {seconds} s");
 }
 
 /// As after the copy of a folder or a machine: both connect to a third, which each time ends the other's connection.
