@@ -11,7 +11,7 @@ DEBIAN = Path("/usr/share/cargo/registry")
 CONFIG = ("--config", Path(__file__).with_name("debian.toml"))
 # The packages that the crates of `rust` are built with.
 CRATES = (
-    "bytes clap futures-core hex hyper openssl prometheus rand serde serde-json sha2 tokio tokio-openssl toml tracing "
+    "bytes clap clap-complete futures-core hex hyper openssl prometheus rand serde serde-json sha2 tokio tokio-openssl toml tracing "
     "tracing-subscriber"
 )
 PACKAGES = [*(f"librust-{it}-dev" for it in CRATES.split()), "libssl-dev", "pkg-config"]

@@ -1,10 +1,10 @@
 //! The configuration, a TOML file.
 
+use crate::gossip::{Bounds, CHARGE, SECOND};
 use crate::identity::{Identity, PeerId};
 use crate::message::MAX_MESSAGE;
 use crate::output::{Form, MAX_WAITING};
 use crate::{invalid, of};
-use broadcast_relay::gossip::{Bounds, CHARGE};
 use serde::{Deserialize, Deserializer, de::Error};
 use std::fs;
 use std::io;
@@ -17,10 +17,12 @@ pub struct Config {
     /// The file with the own key, of `keygen`.
     pub key: PathBuf,
     /// Where this relay listens.
+    #[serde(deserialize_with = "address")]
     pub listen: SocketAddr,
     /// Where others reach it, if that is another address: `broadcast-relay entry` prints it.
     pub advertise: Option<String>,
     /// Where it serves `/metrics` and `/healthz`.
+    #[serde(default, deserialize_with = "address")]
     pub metrics: Option<SocketAddr>,
     /// The folder of the journal.
     pub journal: Option<PathBuf>,
@@ -36,10 +38,13 @@ pub struct Config {
     pub peers: Vec<PeerConfig>,
 }
 
+/// A peer, as a configuration names it.
 #[derive(Clone, Debug, Deserialize, PartialEq)]
 #[serde(deny_unknown_fields)]
 pub struct PeerConfig {
+    /// A word of its own in the output.
     pub name: String,
+    /// The SHA-256 of its public key, in a file as 64 hexadecimal digits.
     #[serde(deserialize_with = "key")]
     pub key: PeerId,
     /// Where it listens, as a host and a port. Without it the peer has to dial.
@@ -55,6 +60,8 @@ pub struct Limits {
     pub author_messages_per_second: u64,
     pub author_bytes_per_second: u64,
     pub author_signatures_per_second: u64,
+    /// For how long an author waits for a peer that stands still.
+    pub patience_seconds: u64,
     /// The most connections that have proved no key, in all and of one address.
     pub handshakes: u64,
     pub handshakes_per_address: u64,
@@ -67,6 +74,7 @@ impl Default for Limits {
             author_messages_per_second: 10_000,
             author_bytes_per_second: 8 << 20,
             author_signatures_per_second: 1_000,
+            patience_seconds: 6,
             handshakes: 512,
             handshakes_per_address: 64,
         }
@@ -74,6 +82,11 @@ impl Default for Limits {
 }
 
 impl Limits {
+    /// What the check of a signature is charged to its author, in bytes.
+    pub fn signature_cost(&self) -> u64 {
+        self.author_bytes_per_second / self.author_signatures_per_second
+    }
+
     /// The bounds of the protocol that follow from these limits.
     pub fn bounds(&self) -> Bounds {
         let (list, rate) = (self.bytes_per_peer, self.author_bytes_per_second);
@@ -86,10 +99,14 @@ impl Limits {
             rate,
             burst,
             least: rate / self.author_messages_per_second,
+            patience: self.patience_seconds * SECOND,
             ..Bounds::default()
         }
     }
 }
+
+/// The most of each limit, so that bounds on memory are numbers.
+const MOST: u64 = 1 << 40;
 
 fn shown() -> Option<Form> {
     Some(Form::Shown)
@@ -109,6 +126,12 @@ fn form<'de, D: Deserializer<'de>>(from: D) -> Result<Option<Form>, D::Error> {
     }
 }
 
+fn address<'de, D: Deserializer<'de>, A: From<SocketAddr>>(from: D) -> Result<A, D::Error> {
+    let parsed = String::deserialize(from)?.parse::<SocketAddr>();
+    let why = "it has to be an IP address and a port, as 127.0.0.1:7001 is";
+    parsed.map(A::from).map_err(|_| D::Error::custom(why))
+}
+
 fn key<'de, D: Deserializer<'de>>(from: D) -> Result<PeerId, D::Error> {
     let mut key = [0; 32];
     hex::decode_to_slice(String::deserialize(from)?, &mut key)
@@ -120,38 +143,54 @@ impl Config {
     /// Reads the file and checks it. Paths in it are relative to its folder.
     pub fn load(file: &Path) -> io::Result<Config> {
         let read = || {
-            let text = fs::read_to_string(file)?;
-            let mut config: Config = toml::from_str(&text).map_err(invalid)?;
+            let mut config = Config::parse(&fs::read_to_string(file)?).map_err(invalid)?;
             let folder = file.parent().unwrap_or(Path::new(""));
             config.key = folder.join(&config.key);
             config.journal = config.journal.map(|it| folder.join(it));
-            config.check().map(|()| config).map_err(invalid)
+            Ok(config)
         };
         read().map_err(of(file))
+    }
+
+    /// Reads a text and checks it.
+    pub fn parse(text: &str) -> Result<Config, String> {
+        let config: Config = toml::from_str(text).map_err(|it| it.to_string())?;
+        config.check().map(|()| config)
     }
 
     fn check(&self) -> Result<(), String> {
         for (place, peer) in self.peers.iter().enumerate() {
             let before = &self.peers[..place];
-            if before.iter().any(|it| it.key == peer.key || it.name == peer.name) {
-                return Err(format!("the peer {} is named twice", peer.name));
-            }
-            if peer.address.as_ref().is_some_and(|it| !it.contains(':')) {
-                return Err(format!("the address of {} has no port", peer.name));
-            }
             check_name(&peer.name)?;
+            if before.iter().any(|it| it.name == peer.name) {
+                return Err(format!("two peers have the name {}", peer.name));
+            }
+            if let Some(other) = before.iter().find(|it| it.key == peer.key) {
+                return Err(format!("the peers {} and {} have one key", other.name, peer.name));
+            }
+            if let Some(address) = peer.address.iter().find(|it| !is_address(it)) {
+                let why = "it has to be HOST:PORT";
+                return Err(format!("the address of {} is {address:?}: {why}", peer.name));
+            }
+        }
+        if self.metrics == Some(self.listen) && self.listen.port() != 0 {
+            return Err("metrics and listen are one address".into());
         }
         let limits = &self.limits;
         let needed = [
-            ("bytes_per_peer", limits.bytes_per_peer, 1 << 20),
-            ("author_messages_per_second", limits.author_messages_per_second, 1),
-            ("author_bytes_per_second", limits.author_bytes_per_second, MAX_MESSAGE as u64),
-            ("author_signatures_per_second", limits.author_signatures_per_second, 1),
-            ("handshakes_per_address", limits.handshakes_per_address, 1),
-            ("handshakes", limits.handshakes, limits.handshakes_per_address),
+            ("bytes_per_peer", limits.bytes_per_peer, 1 << 20..=MOST),
+            ("author_messages_per_second", limits.author_messages_per_second, 1..=MOST),
+            ("author_bytes_per_second", limits.author_bytes_per_second, MAX_MESSAGE as u64..=MOST),
+            ("author_signatures_per_second", limits.author_signatures_per_second, 1..=MOST),
+            ("patience_seconds", limits.patience_seconds, 1..=24 * 3_600),
+            ("handshakes_per_address", limits.handshakes_per_address, 1..=MOST),
+            ("handshakes", limits.handshakes, limits.handshakes_per_address..=MOST),
         ];
-        match needed.iter().find(|(_, value, least)| value < least) {
-            Some((name, value, least)) => Err(format!("{name} is {value}, and at least {least}")),
+        match needed.iter().find(|(_, value, range)| !range.contains(value)) {
+            Some((name, value, range)) => {
+                let (least, most) = (range.start(), range.end());
+                Err(format!("{name} is {value}, and has to be at least {least}, at most {most}"))
+            }
             None => Ok(()),
         }
     }
@@ -179,10 +218,23 @@ impl Config {
 
     /// What other relays write into their configurations to name this one.
     pub fn entry(&self, name: &str) -> io::Result<String> {
-        let key = hex::encode(Identity::load(&self.key)?.id);
-        let address = self.advertise.clone().unwrap_or_else(|| self.listen.to_string());
-        Ok(format!("[[peer]]\nname = \"{name}\"\nkey = \"{key}\"\naddress = \"{address}\"\n"))
+        Ok(self.entry_of(name, &Identity::load(&self.key)?))
     }
+
+    /// The same, of a key that need not be in its file yet.
+    pub fn entry_of(&self, name: &str, identity: &Identity) -> String {
+        let key = hex::encode(identity.id);
+        let address = self.advertise.clone().unwrap_or_else(|| self.listen.to_string());
+        format!("[[peer]]\nname = \"{name}\"\nkey = \"{key}\"\naddress = \"{address}\"\n")
+    }
+}
+
+/// Whether a text is `HOST:PORT`.
+fn is_address(text: &str) -> bool {
+    let (host, port) = text.rsplit_once(':').unwrap_or_default();
+    let is_host = |it: &str| !it.is_empty() && !it.contains([':', '/', '[', ' ']);
+    let is_port = port.parse::<u16>().is_ok_and(|it| it > 0);
+    is_port && (is_host(host) || text.parse::<SocketAddr>().is_ok())
 }
 
 /// A name is a word of its own in a line of output and in a configuration.
@@ -198,15 +250,10 @@ pub fn check_name(name: &str) -> Result<(), String> {
 mod tests {
     use super::*;
 
-    fn parsed(text: &str) -> Result<Config, String> {
-        let config: Config = toml::from_str(text).map_err(|it| it.to_string())?;
-        config.check().map(|()| config)
-    }
-
     #[test]
     fn the_example_has_each_limit_as_it_is_by_default() {
         let text = include_str!("../relay.example.toml");
-        let config = parsed(text).unwrap();
+        let config = Config::parse(text).unwrap();
         assert_eq!(config.limits, Limits::default());
         let limits = format!("{:?}", config.limits);
         let names: Vec<_> = limits.split(' ').filter_map(|it| it.strip_suffix(':')).collect();
@@ -220,26 +267,34 @@ mod tests {
         let peer = |name: &str, key: &str, rest: &str| {
             format!("[[peer]]\nname = \"{name}\"\nkey = \"{}\"\n{rest}\n", key.repeat(64))
         };
-        assert_eq!(parsed(good).unwrap().limits, Limits::default());
-        let config = parsed(&format!("{good}{}", peer("b", "a", "address = \"h:1\""))).unwrap();
+        assert_eq!(Config::parse(good).unwrap().limits, Limits::default());
+        let config =
+            Config::parse(&format!("{good}{}", peer("b", "a", "address = \"h:1\""))).unwrap();
         assert_eq!(config.peers[0].key, [0xaa; 32]);
         for (rest, why) in [
-            (peer("b", "a", "") + &peer("c", "a", ""), "twice"),
-            (peer("b", "a", "") + &peer("b", "c", ""), "twice"),
+            (peer("b", "a", "") + &peer("c", "a", ""), "the peers b and c have one key"),
+            (peer("b", "a", "") + &peer("b", "c", ""), "two peers"),
             (peer("b", "x", ""), "hexadecimal"),
             ("output = \"hex\"\n".into(), "raw"),
             (peer("b c", "a", ""), "no name"),
             (peer("own", "a", ""), "no name"),
-            (peer("b", "a", "address = \"h\""), "no port"),
+            (peer("b", "a", "address = \"h\""), "HOST:PORT"),
+            (peer("b", "a", "address = \"h:port\""), "HOST:PORT"),
+            (peer("b", "a", "address = \":99999\""), "HOST:PORT"),
+            (peer("b", "a", "address = \"tls://h:7001\""), "HOST:PORT"),
+            ("metrics = \"[::1]:7001\"\n".into(), "one address"),
+            ("metrics = \"localhost:7001\"\n".into(), "IP address"),
             (peer("b", "a", "port = 1"), "unknown field"),
             ("[limits]\nbytes_per_peer = 10".into(), "at least"),
+            ("[limits]\nbytes_per_peer = 9000000000000000000".into(), "at most"),
             ("[limits]\nhandshakes = 3".into(), "at least"),
+            ("[limits]\npatience_seconds = 100000".into(), "at most"),
             ("[limits]\nhandshake = 3".into(), "unknown field"),
         ] {
-            let said = parsed(&format!("{good}{rest}")).unwrap_err();
+            let said = Config::parse(&format!("{good}{rest}")).unwrap_err();
             assert!(said.contains(why), "{said}");
         }
-        assert!(parsed("listen = \"[::1]:7001\"").unwrap_err().contains("key"));
-        assert!(parsed("key = \"k\"\nlisten = \"localhost\"").is_err());
+        assert!(Config::parse("listen = \"[::1]:7001\"").unwrap_err().contains("key"));
+        assert!(Config::parse("key = \"k\"\nlisten = \"localhost\"").is_err());
     }
 }

@@ -17,36 +17,44 @@ use std::path::Path;
 /// The SHA-256 of a peer's public key.
 pub type PeerId = [u8; 32];
 
+/// The key of a relay, whose private part `{:?}` does not print.
+#[derive(Debug)]
 pub struct Identity {
-    pub key: PKey<Private>,
+    pub(crate) key: PKey<Private>,
+    /// Its public part.
     pub public: [u8; 32],
+    /// What peers know it by.
     pub id: PeerId,
 }
 
-/// Makes a key, and writes it to a new file that only its owner may read.
-pub fn keygen(file: &Path) -> io::Result<Identity> {
-    let identity = Identity::generate()?;
-    let pem = identity.key.private_key_to_pem_pkcs8()?;
-    let mut file =
-        OpenOptions::new().write(true).create_new(true).mode(0o600).open(file).map_err(of(file))?;
-    file.write_all(&pem)?;
-    file.sync_all()?;
-    Ok(identity)
+/// Whether others than its owner may read a file.
+pub fn may_others_read(file: &Path) -> io::Result<bool> {
+    Ok(metadata(file).map_err(of(file))?.permissions().mode() & 0o077 != 0)
 }
 
 impl Identity {
+    /// Makes a key.
     pub fn generate() -> io::Result<Identity> {
         Identity::of(PKey::generate_ed25519()?)
     }
 
+    /// Reads a key from a file.
     pub fn load(file: &Path) -> io::Result<Identity> {
         let load = || {
-            if metadata(file)?.permissions().mode() & 0o077 != 0 {
-                tracing::warn!(file = %file.display(), "others may read this key");
-            }
-            Identity::of(PKey::private_key_from_pem(&read(file)?)?)
+            let key = PKey::private_key_from_pem(&read(file)?);
+            Identity::of(key.map_err(|_| invalid("not a private key in PEM form"))?)
         };
         load().map_err(of(file))
+    }
+
+    /// Writes the key to a new file that only its owner may read.
+    pub fn save(&self, file: &Path) -> io::Result<()> {
+        let pem = self.key.private_key_to_pem_pkcs8()?;
+        let mut options = OpenOptions::new();
+        let new = options.write(true).create_new(true).mode(0o600);
+        let mut new = new.open(file).map_err(of(file))?;
+        new.write_all(&pem)?;
+        new.sync_all()
     }
 
     fn of(key: PKey<Private>) -> io::Result<Identity> {
@@ -55,7 +63,7 @@ impl Identity {
     }
 
     /// A certificate of the key, signed by itself, for all times.
-    pub fn certificate(&self) -> Result<X509, ErrorStack> {
+    pub(crate) fn certificate(&self) -> Result<X509, ErrorStack> {
         let mut builder = X509Builder::new()?;
         let [from, to] = ["20200101000000Z", "99991231235959Z"].map(Asn1Time::from_str);
         builder.set_not_before(from?.as_ref())?;
@@ -65,7 +73,7 @@ impl Identity {
         Ok(builder.build())
     }
 
-    pub fn sign(&self, bytes: &[u8]) -> Result<Vec<u8>, ErrorStack> {
+    pub(crate) fn sign(&self, bytes: &[u8]) -> Result<Vec<u8>, ErrorStack> {
         Signer::new_without_digest(&self.key)?.sign_oneshot_to_vec(bytes)
     }
 }
@@ -75,12 +83,13 @@ fn public(key: &PKeyRef<impl HasPublic>) -> Option<[u8; 32]> {
 }
 
 /// The id of who proves to have the key of the certificate.
-pub fn id_of(certificate: &X509Ref) -> Option<PeerId> {
+pub(crate) fn id_of(certificate: &X509Ref) -> Option<PeerId> {
     let key = certificate.public_key().ok()?;
     public(&key).map(|it| sha256(&it))
 }
 
 /// The public key of an author.
+#[derive(Debug)]
 pub struct PublicKey(PKey<Public>);
 
 impl PublicKey {

@@ -1,10 +1,13 @@
 //! Broadcasts the lines of the standard input.
 
-use crate::hub::Hub;
+use crate::intake::Intake;
 use crate::message::{MAX_BATCH, MAX_TEXT};
+use crate::{clock, now};
 use std::fs::File;
 use std::io::{self, ErrorKind, Read};
 use std::os::fd::{AsFd, AsRawFd};
+use std::sync::Arc;
+use std::sync::atomic::{AtomicU64, Ordering::Relaxed};
 use std::thread;
 use std::time::Duration;
 use tokio::io::Interest;
@@ -25,24 +28,49 @@ const PACE: Duration = Duration::from_millis(2);
 const REST: Duration = Duration::from_millis(10);
 const RETRY: Duration = Duration::from_secs(1);
 
-/// The lines that are read, until the input ends or the other end is dropped. Then what was read is among them, and no more is read.
-pub type Lines = (Receiver<Vec<u8>>, oneshot::Sender<()>);
+/// The lines that are read, until the input ends or is to be read no more.
+pub struct Lines {
+    lines: Receiver<Vec<u8>>,
+    end: Option<oneshot::Sender<()>>,
+    read: Arc<AtomicU64>,
+}
+
+impl Lines {
+    /// No lines.
+    pub fn none() -> Lines {
+        Lines { lines: mpsc::channel(1).1, end: None, read: Arc::default() }
+    }
+
+    /// Lets no more be read. What was read before is among the lines.
+    pub fn stop(&mut self) {
+        self.end = None;
+    }
+
+    /// How many lines were read.
+    pub fn read(&self) -> u64 {
+        self.read.load(Relaxed)
+    }
+}
 
 /// Starts to read lines in a thread of its own.
 pub fn start() -> io::Result<Lines> {
     let (sender, lines) = mpsc::channel(WAITING);
     let (end, ends) = oneshot::channel();
     let (input, runtime) = (io::stdin().as_fd().try_clone_to_owned()?.into(), Handle::current());
+    let read = Arc::new(AtomicU64::new(0));
+    let count = read.clone();
     thread::Builder::new().name("input".into()).spawn(move || {
-        let why =
-            read(input, ends, &runtime, |it| it.is_empty() || sender.blocking_send(it).is_ok());
+        let why = read_lines(input, ends, &runtime, |it| {
+            count.fetch_add(u64::from(!it.is_empty()), Relaxed);
+            it.is_empty() || sender.blocking_send(it).is_ok()
+        });
         info!(why, "the input is not read any more");
     })?;
-    Ok((lines, end))
+    Ok(Lines { lines, end: Some(end), read })
 }
 
 /// Calls `each` with the lines of an input, until that or the relay ends, or `each` refuses one. Returns why.
-fn read(
+fn read_lines(
     mut input: File,
     mut ends: oneshot::Receiver<()>,
     runtime: &Handle,
@@ -108,25 +136,25 @@ fn text(mut line: Vec<u8>) -> Vec<u8> {
 
 /// Publishes all lines, those that have come meanwhile together. Returns at the end of the input. From a time on it waits for nobody,
 /// if the relay ends. Dropping the future loses no line: none is taken before it may be published.
-pub async fn publish(hub: &Hub, lines: &mut Receiver<Vec<u8>>, end: Option<Instant>) {
+pub async fn publish(intake: &Intake, lines: &mut Lines, end: Option<Instant>) {
     loop {
         match end {
-            Some(end) => drop(timeout_at(end, hub.may_publish()).await),
-            None => hub.may_publish().await,
+            Some(end) => drop(timeout_at(end, intake.may_publish()).await),
+            None => intake.may_publish().await,
         }
-        let Some(line) = lines.recv().await else { return };
+        let Some(line) = lines.lines.recv().await else { return };
         let next = Instant::now() + PACE;
         let (mut bytes, mut batch) = (line.len(), vec![line]);
         while batch.len() < MAX_BATCH
             && bytes < MAX_BYTES
-            && let Ok(line) = lines.try_recv()
+            && let Ok(line) = lines.lines.try_recv()
         {
             bytes += line.len();
             batch.push(line);
         }
         // Again and again until it succeeds, as on a full disk.
         let mut has_failed = false;
-        while let Err(why) = hub.publish(&batch) {
+        while let Err(why) = intake.publish(now(), clock(), &batch) {
             if !has_failed {
                 error!(%why, "lines are not broadcast, and tried again");
                 has_failed = true;

@@ -8,17 +8,17 @@
 //! A message is written by one call before it is printed or passed on; the system is not told to sync. A kill of the process loses
 //! nothing of it, a loss of power may lose the newest messages.
 
+use crate::gossip::{self, Past, log_with_floor};
 use crate::identity::PeerId;
 use crate::message::{MAX_MESSAGE, Signed, hash};
 use crate::of;
 use broadcast_node::log::{AuthorLog, Message as Entry};
-use broadcast_relay::gossip::log_with_floor;
 use bytes::Bytes;
 use hex::FromHex;
 use std::collections::BTreeSet;
 use std::fs::{self, File, OpenOptions, TryLockError};
 use std::io::{self, ErrorKind, Write};
-use std::os::unix::fs::{DirBuilderExt, FileExt, OpenOptionsExt};
+use std::os::unix::fs::{DirBuilderExt, FileExt, MetadataExt, OpenOptionsExt};
 use std::path::{Path, PathBuf};
 
 /// Begins each file: what it is, and its version.
@@ -56,11 +56,13 @@ fn check(parts: &[&[u8]]) -> [u8; CHECK] {
     hash(parts).first_chunk().copied().unwrap_or_default()
 }
 
-/// What a journal had of an author: the floor of its log, and the listed messages, in the order in which they came.
-#[derive(Debug, Default)]
-pub struct Past {
-    pub floor: u64,
-    pub messages: Vec<Signed>,
+/// What files have of an author: the floor of its log, and messages, in the order in which they came.
+#[derive(Default)]
+struct Found {
+    floor: u64,
+    messages: Vec<Signed>,
+    /// The stamps, above the first and up to the second, that stood in damaged records.
+    torn: Vec<(u64, u64)>,
 }
 
 /// The files of one author.
@@ -74,6 +76,8 @@ pub struct Journal {
     /// The floor and the list of what was written to any file. The handle of a message is the number of its file.
     log: AuthorLog,
     number: u64,
+    /// The stamps that stood in damaged records when the files were opened.
+    torn: Vec<(u64, u64)>,
 }
 
 /// Adds a message of a file to a log.
@@ -84,29 +88,41 @@ fn note(log: &mut AuthorLog, it: &Signed, number: u64) -> io::Result<()> {
 }
 
 impl Journal {
-    /// Opens the files of an author, which may have some more than `most` bytes each.
+    /// Opens the files of an author, which may have some more than `most` bytes each. Returns besides what was had, in which the author
+    /// has the number 0 until it is listed.
     pub fn open(folder: &Path, author: &PeerId, most: u64) -> io::Result<(Journal, Past)> {
         let [older, newer] = files(folder, author);
-        let (mut past, mut in_older) = (Past::default(), 0);
+        let (mut found, mut in_older) = (Found::default(), 0);
         for path in [&older, &newer] {
-            in_older = past.messages.len();
+            in_older = found.messages.len();
             if path.exists() {
-                recover(path, &mut past).map_err(of(path))?;
+                recover(path, &mut found).map_err(of(path))?;
             }
         }
-        let mut log = log_with_floor(most, past.floor).map_err(io::Error::other)?;
-        for (place, it) in past.messages.iter().enumerate() {
+        let mut log = log_with_floor(most, found.floor).map_err(io::Error::other)?;
+        for (place, it) in found.messages.iter().enumerate() {
             note(&mut log, it, u64::from(place >= in_older))?;
         }
-        past.floor = past.floor.max(log.floor());
-        past.messages.retain(|it| it.stamp > past.floor && log.has(it.stamp));
+        found.floor = found.floor.max(log.floor());
+        found.messages.retain(|it| it.stamp > found.floor && log.has(it.stamp));
         let file = private().open(&newer).map_err(of(&newer))?;
         let len = file.metadata()?.len();
-        let mut journal = Journal { older, newer, file, len, most, log, number: 1 };
+        let torn = found.torn;
+        let mut journal = Journal { older, newer, file, len, most, log, number: 1, torn };
         if len == 0 {
-            journal.write(&head(past.floor))?;
+            journal.write(&head(found.floor))?;
         }
-        Ok((journal, past))
+        let numbered = |it: Signed| {
+            let (stamp, prev, bytes) = (it.stamp, it.prev, it.bytes);
+            gossip::Message { author: 0, stamp, prev, bytes }
+        };
+        let messages = found.messages.into_iter().map(numbered).collect();
+        Ok((journal, Past { floor: found.floor, messages }))
+    }
+
+    /// Whether a message may have stood in a damaged record, so that it was delivered before.
+    pub fn may_have_had(&self, stamp: u64) -> bool {
+        self.torn.iter().any(|&(after, upto)| after < stamp && stamp <= upto)
     }
 
     /// Appends messages, all or none.
@@ -120,7 +136,14 @@ impl Journal {
 
     /// Writes by one call, which a kill of the process leaves whole or undone. What an error leaves of it is cut off.
     fn write(&mut self, bytes: &[u8]) -> io::Result<()> {
-        if self.file.metadata()?.len() != self.len {
+        let there = self.file.metadata()?;
+        if there.nlink() == 0 {
+            tracing::warn!(file = %self.newer.display(), "deleted while the relay runs: begun anew");
+            // What was had is in no file any more, and is not to be delivered again after the next start.
+            let last = self.log.len().checked_sub(1).and_then(|it| self.log.get(it));
+            self.begin(&head(last.map_or(self.log.floor(), |it| it.stamp)))
+                .map_err(of(&self.newer))?;
+        } else if there.len() != self.len {
             self.file.set_len(self.len)?;
         }
         self.file.write_all_at(bytes, self.len).map_err(of(&self.newer))?;
@@ -128,12 +151,16 @@ impl Journal {
         Ok(())
     }
 
-    /// Begins a new file. Whenever it is cut short, the files that are there say what was had.
+    /// Begins a new file with what is listed and in no other.
     fn rotate(&mut self) -> io::Result<()> {
+        self.begin(&[head(self.log.floor()), records(&self.carried()?)].concat())
+    }
+
+    /// Begins a new file. Whenever it is cut short, the files that are there say what was had.
+    fn begin(&mut self, bytes: &[u8]) -> io::Result<()> {
         let fresh = self.newer.with_extension("new");
         let file = private().truncate(true).open(&fresh)?;
-        let bytes = [head(self.log.floor()), records(&self.carried()?)].concat();
-        file.write_all_at(&bytes, 0)?;
+        file.write_all_at(bytes, 0)?;
         match fs::rename(&self.newer, &self.older) {
             Err(why) if why.kind() != ErrorKind::NotFound => return Err(why),
             _ => fs::rename(&fresh, &self.newer)?,
@@ -148,12 +175,12 @@ impl Journal {
         if !(0..self.log.len()).filter_map(|it| self.log.get(it)).any(|it| is_older(&it)) {
             return Ok(Vec::new());
         }
-        let mut past = Past::default();
+        let mut found = Found::default();
         if self.older.exists() {
-            parse(&fs::read(&self.older)?, &mut past);
+            parse(&fs::read(&self.older)?, &mut found);
         }
-        past.messages.retain(|it| self.log.find(it.stamp).is_some_and(|it| is_older(&it)));
-        Ok(past.messages)
+        found.messages.retain(|it| self.log.find(it.stamp).is_some_and(|it| is_older(&it)));
+        Ok(found.messages)
     }
 }
 
@@ -178,24 +205,24 @@ fn head(floor: u64) -> Vec<u8> {
     head
 }
 
-/// Calls `each` with the messages of all authors in a folder.
-pub fn read(folder: &Path, mut each: impl FnMut(Signed)) -> io::Result<()> {
+/// Calls `each` with the messages of all authors in a folder, until it fails.
+pub fn read(folder: &Path, mut each: impl FnMut(Signed) -> io::Result<()>) -> io::Result<()> {
     let mut authors = BTreeSet::new();
     for it in fs::read_dir(folder).map_err(of(folder))? {
         authors.extend(it?.path().file_stem().and_then(|it| <PeerId>::from_hex(it.to_str()?).ok()));
     }
     for file in authors.iter().flat_map(|it| files(folder, it)).filter(|it| it.exists()) {
-        let mut past = Past::default();
-        parse(&fs::read(&file).map_err(of(&file))?, &mut past);
-        past.messages.into_iter().for_each(&mut each);
+        let mut found = Found::default();
+        parse(&fs::read(&file).map_err(of(&file))?, &mut found);
+        found.messages.into_iter().try_for_each(&mut each)?;
     }
     Ok(())
 }
 
 /// Reads a file. What cannot be read is kept aside and cut off, or passed over if it is one record.
-fn recover(path: &Path, past: &mut Past) -> io::Result<()> {
+fn recover(path: &Path, found: &mut Found) -> io::Result<()> {
     let bytes = fs::read(path)?;
-    let (whole, wrong) = parse(&bytes, past);
+    let (whole, wrong) = parse(&bytes, found);
     let cut = bytes.len() - whole;
     if cut == 0 && wrong == 0 {
         return Ok(());
@@ -210,25 +237,31 @@ fn recover(path: &Path, past: &mut Past) -> io::Result<()> {
 }
 
 /// Returns how many bytes of a file are whole records, and how many of these are wrong.
-fn parse(bytes: &[u8], past: &mut Past) -> (usize, usize) {
+fn parse(bytes: &[u8], found: &mut Found) -> (usize, usize) {
     let Some(head) = bytes.get(..HEAD).filter(|it| it.starts_with(MAGIC)) else { return (0, 0) };
     let floor = parse_head(head);
-    past.floor = past.floor.max(floor.unwrap_or(0));
+    found.floor = found.floor.max(floor.unwrap_or(0));
     let (mut at, mut wrong) = (HEAD, usize::from(floor.is_none()));
     let mut parsed = (at, wrong);
+    let (mut before, mut is_torn) =
+        (found.messages.last().map_or(found.floor, |it| it.stamp), false);
     // Wrong records at the end may be no records at all. Behind a wrong one, the next may begin anywhere, also within a text of the
     // author: so from there on it counts only with a signature.
     let mut is_sure = true;
     while at < bytes.len() {
         match parse_record(bytes, at).filter(|(it, _)| is_sure || it.is_signed()) {
             Some((message, end)) => {
-                past.messages.push(message);
+                if std::mem::take(&mut is_torn) {
+                    found.torn.push((before, message.prev));
+                }
+                before = message.stamp;
+                found.messages.push(message);
                 at = end;
                 parsed = (at, wrong);
             }
             None => {
                 wrong += usize::from(is_sure);
-                (at, is_sure) = (at + 1, false);
+                (at, is_sure, is_torn) = (at + 1, false, true);
             }
         }
     }

@@ -1,15 +1,17 @@
 //! Accepts and dials connections.
 
-use crate::hub::Hub;
+use crate::connection;
 use crate::identity::PeerId;
-use crate::peer::Peer;
-use crate::session;
+use crate::intake::{Intake, Peer};
+use crate::now;
+use crate::output::Output;
 use crate::strangers::{Strangers, has_hello, network};
 use crate::tls::{Stream, Tls};
 use rand::Rng;
 use std::io;
 use std::net::{IpAddr, SocketAddr, ToSocketAddrs};
 use std::sync::Arc;
+use std::sync::atomic::{AtomicU64, Ordering::Relaxed};
 use std::thread;
 use std::time::{Duration, Instant};
 use tokio::net::{TcpListener, TcpStream};
@@ -26,11 +28,23 @@ const MAX_REST: Duration = Duration::from_secs(3);
 const REFUSED: Duration = Duration::from_millis(20);
 
 pub struct Network {
-    pub hub: Arc<Hub>,
+    pub intake: Arc<Intake>,
     pub tls: Tls,
     pub strangers: Strangers,
     /// How many connections are accepted that have proved no key.
     pub accepted: Arc<Semaphore>,
+    pub met: Met,
+    pub output: Option<Output>,
+    pub log: Output,
+}
+
+/// How many connections have proved no key: now; ever; and of these, how many lost a place, and got none.
+#[derive(Default)]
+pub struct Met {
+    pub handshakes: AtomicU64,
+    pub strangers: AtomicU64,
+    pub pushed_out: AtomicU64,
+    pub turned_away: AtomicU64,
 }
 
 /// A connection whose peer has proved its key and said its version, and how long its packets take there and back, at most.
@@ -52,22 +66,23 @@ pub async fn accept(network: Arc<Network>, listener: TcpListener) {
 }
 
 async fn greet(at: Arc<Network>, stream: TcpStream, from: SocketAddr, one: OwnedSemaphorePermit) {
-    let (metrics, address) = (&at.hub.metrics, network(from.ip()));
+    let (met, address) = (&at.met, network(from.ip()));
     let Some(mut place) = at.strangers.enter(address).await else {
-        return metrics.turned_away.inc();
+        met.turned_away.fetch_add(1, Relaxed);
+        return;
     };
-    metrics.pushed_out.inc_by(place.has_pushed.into());
-    metrics.handshakes.inc();
+    met.pushed_out.fetch_add(place.has_pushed.into(), Relaxed);
+    met.handshakes.fetch_add(1, Relaxed);
     let proved = tokio::select! {
         _ = &mut place.taken => Err(io::Error::other("another has taken its place")),
         proved = in_time(prove(&at, stream, address)) => proved,
     };
-    metrics.handshakes.dec();
+    met.handshakes.fetch_sub(1, Relaxed);
     drop((place, one));
     match proved {
-        Ok(proved) => attend(&at.hub, proved, false).await,
+        Ok(proved) => attend(&at.intake, proved, false).await,
         Err(why) => {
-            metrics.strangers.inc();
+            met.strangers.fetch_add(1, Relaxed);
             debug!(%from, %why, "refused");
         }
     }
@@ -85,13 +100,13 @@ async fn prove(at: &Network, stream: TcpStream, address: IpAddr) -> io::Result<P
     at.strangers.turn(address).await;
     let start = Instant::now();
     let (mut stream, id) = at.tls.accept(stream).await?;
-    session::greet(&mut stream).await?;
+    connection::greet(&mut stream).await?;
     Ok((stream, id, start.elapsed()))
 }
 
-async fn attend(hub: &Arc<Hub>, (stream, peer, round_trip): Proved, is_dialed: bool) {
-    if let Some(session) = hub.attach(&peer, is_dialed, round_trip) {
-        session::run(hub.clone(), session, stream).await;
+async fn attend(intake: &Arc<Intake>, (stream, peer, round_trip): Proved, is_dialed: bool) {
+    if let Some(connection) = intake.attach(now(), &peer, is_dialed, round_trip) {
+        connection::run(intake.clone(), connection, stream).await;
     }
 }
 
@@ -111,15 +126,15 @@ async fn go_on<F: Future<Output = ()> + Send + 'static>(mut task: impl FnMut() -
 
 /// Dials a peer whenever it is not connected, until it is removed or moves.
 async fn dial(network: Arc<Network>, peer: Arc<Peer>) {
-    let (hub, Some(address)) = (&network.hub, &peer.config.address) else { return };
+    let (intake, Some(address)) = (&network.intake, &peer.config.address) else { return };
     let (mut rest, mut logged) = (REST, None);
-    while let Some(is_free) = hub.is_free(&peer) {
+    while let Some(is_free) = intake.is_free(now(), &peer) {
         let start = Instant::now();
         if is_free {
             match connect(&network, &peer, address).await {
                 Ok(proved) => {
                     logged = None;
-                    attend(hub, proved, true).await;
+                    attend(intake, proved, true).await;
                 }
                 Err(why) => {
                     let why = Some(why.to_string());
@@ -162,7 +177,7 @@ async fn connect(network: &Network, peer: &Peer, address: &str) -> io::Result<Pr
         let round_trip = start.elapsed();
         stream.set_nodelay(true)?;
         let mut stream = network.tls.connect(stream, id).await?;
-        session::greet(&mut stream).await.map_err(|why| match why.kind() {
+        connection::greet(&mut stream).await.map_err(|why| match why.kind() {
             io::ErrorKind::Unsupported => why,
             // The other side ends the handshake once it has seen the own certificate, which is after this side's part of it.
             _ => {
@@ -178,7 +193,7 @@ async fn connect(network: &Network, peer: &Peer, address: &str) -> io::Result<Pr
 #[cfg(test)]
 mod tests {
     use super::*;
-    use std::sync::atomic::{AtomicU32, Ordering};
+    use std::sync::atomic::AtomicU32;
     use std::sync::mpsc;
 
     #[tokio::test]
@@ -200,10 +215,10 @@ mod tests {
         let starts = Arc::new(AtomicU32::new(0));
         let count = starts.clone();
         go_on(move || {
-            let start = count.fetch_add(1, Ordering::Relaxed);
+            let start = count.fetch_add(1, Relaxed);
             async move { assert!(start == 3, "as it must be") }
         })
         .await;
-        assert_eq!(starts.load(Ordering::Relaxed), 4);
+        assert_eq!(starts.load(Relaxed), 4);
     }
 }

@@ -24,23 +24,27 @@ const PREV: Range<usize> = 104..112;
 const PLACE: usize = 112;
 const DEPTH: usize = 113;
 const HASHES: usize = 114;
-/// The most bytes of a text, and of a message.
+/// The most bytes of a text.
 pub const MAX_TEXT: usize = 60_000;
+/// The most bytes of a message.
 pub const MAX_MESSAGE: usize = HASHES + 32 * MAX_DEPTH + MAX_TEXT;
 /// Stands before what is hashed, so no signature is of use elsewhere.
 const PURPOSE: &[u8] = b"broadcast-relay message 3";
 
+/// A message as its author signed it.
 #[derive(Clone, Debug)]
 pub struct Signed {
+    /// Whose message it is.
     pub author: PeerId,
     /// Nanoseconds since 1970 by the author's clock. An author gives each of its messages another one.
     pub stamp: u64,
     /// The stamp of the author's message before: this message covers `(prev, stamp]`.
     pub prev: u64,
+    /// The whole of it, as it is sent and journaled.
     pub bytes: Bytes,
 }
 
-pub fn hash(parts: &[&[u8]]) -> Hash {
+pub(crate) fn hash(parts: &[&[u8]]) -> Hash {
     let mut hasher = Sha256::new();
     parts.iter().for_each(|it| hasher.update(it));
     hasher.finish()
@@ -77,6 +81,7 @@ impl Signed {
         HASHES + 32 * usize::from(self.bytes[DEPTH])
     }
 
+    /// The text that its author wrote.
     pub fn text(&self) -> &[u8] {
         &self.bytes[self.text_at()..]
     }
@@ -116,7 +121,7 @@ impl Signed {
 }
 
 /// A signature and what it is of.
-#[derive(Clone, Copy, PartialEq, Eq)]
+#[derive(Clone, Copy, Debug, PartialEq, Eq)]
 pub struct Seal {
     root: Hash,
     signature: [u8; 64],

@@ -1,17 +1,15 @@
-//! What a relay counts, and `GET /metrics` and `GET /healthz` for a scraper. README.md says what each counter means.
+//! `GET /metrics` and `GET /healthz` for a scraper. README.md says what each counter means.
 
-use crate::hub::Hub;
+use crate::intake::Standing;
+use crate::listen::Network;
+use crate::now;
+use crate::output::Output;
 use hyper::server::conn::Http;
 use hyper::service::service_fn;
 use hyper::{Body, Method, Request, Response, StatusCode, http};
-use prometheus::{
-    IntCounter, IntCounterVec, IntGauge, IntGaugeVec, Registry,
-    register_int_counter_vec_with_registry as counters,
-    register_int_counter_with_registry as counter, register_int_gauge_vec_with_registry as gauges,
-    register_int_gauge_with_registry as gauge,
-};
 use std::collections::VecDeque;
 use std::sync::Arc;
+use std::sync::atomic::Ordering::Relaxed;
 use std::time::Duration;
 use tokio::net::TcpListener;
 use tokio::task::JoinHandle;
@@ -21,74 +19,68 @@ use tokio::time::{sleep, timeout};
 const PLACES: usize = 16;
 const PATIENCE: Duration = Duration::from_secs(5);
 
-pub struct Metrics {
-    pub registry: Registry,
-    pub connected: IntGaugeVec,
-    pub held: IntGaugeVec,
-    pub stalled: IntGaugeVec,
-    pub lost: IntCounterVec,
-    pub left_behind: IntCounterVec,
-    pub handshakes: IntGauge,
-    pub published: IntCounter,
-    pub delivered: IntCounterVec,
-    pub again: IntCounterVec,
-    pub left_out: IntCounterVec,
-    pub unlisted: IntCounterVec,
-    pub invalid: IntCounterVec,
-    pub strangers: IntCounter,
-    pub pushed_out: IntCounter,
-    pub turned_away: IntCounter,
-    pub output_dropped: IntCounter,
-    pub log_dropped: IntCounter,
-}
+/// A metric of each node: its name, what it is, of whom, and its value.
+type OfNode = (&'static str, &'static str, &'static str, fn(&Standing) -> u64);
 
-impl Metrics {
-    pub fn new() -> prometheus::Result<Metrics> {
-        let registry = Registry::new_custom(Some("relay".into()), None)?;
-        Ok(Metrics {
-            connected: gauges!("connected", "Whether a peer is connected", &["peer"], registry)?,
-            held: gauges!("held", "Whether an author waits for a peer", &["author"], registry)?,
-            stalled: gauges!("stalled", "Whether a peer stands still", &["peer"], registry)?,
-            lost: counters!("lost_total", "Gaps nobody can fill", &["author"], registry)?,
-            left_behind: counters!("left_behind_total", "Left lists unsent", &["peer"], registry)?,
-            handshakes: gauge!("handshakes", "Connections that have proved no key", registry)?,
-            published: counter!("published_total", "Own messages", registry)?,
-            delivered: counters!("delivered_total", "New messages", &["author"], registry)?,
-            again: counters!("again_total", "Messages that came again", &["peer"], registry)?,
-            left_out: counters!("left_out_total", "Messages left out", &["peer"], registry)?,
-            unlisted: counters!("unlisted_total", "Of unlisted authors", &["peer"], registry)?,
-            invalid: counters!("invalid_total", "Closed for what came", &["peer"], registry)?,
-            strangers: counter!("strangers_total", "Who proved no listed key", registry)?,
-            pushed_out: counter!("pushed_out_total", "Handshakes that lost a place", registry)?,
-            turned_away: counter!("turned_away_total", "Who got no place", registry)?,
-            output_dropped: counter!("output_dropped_total", "Lines nobody read", registry)?,
-            log_dropped: counter!("log_dropped_total", "Log lines nobody read", registry)?,
-            registry,
-        })
-    }
+const OF_NODES: [OfNode; 11] = [
+    ("connected", "Whether a peer is connected", "peer", |it| it.is_connected.into()),
+    ("held", "Whether an author waits for a peer", "author", |it| it.is_held.into()),
+    ("stalled", "Whether a peer stands still", "peer", |it| it.is_stalled.into()),
+    ("lost_total", "Gaps nobody can fill", "author", |it| it.lost),
+    ("left_behind_total", "Left lists unsent", "peer", |it| it.left_behind),
+    ("delivered_total", "New messages", "author", |it| it.counts.delivered),
+    ("again_total", "Messages that came again", "peer", |it| it.counts.again),
+    ("left_out_total", "Messages left out", "peer", |it| it.counts.left_out),
+    ("unlisted_total", "Of unlisted authors", "peer", |it| it.counts.unlisted),
+    ("invalid_total", "Closed for what came", "peer", |it| it.counts.invalid),
+    ("replaced_total", "Connections that another replaced", "peer", |it| it.counts.replaced),
+];
 
-    /// Shows the counters of a peer from the start.
-    pub fn add_peer(&self, name: &str) {
-        self.connected.with_label_values(&[name]);
-        let others = [&self.lost, &self.left_behind, &self.delivered, &self.again];
-        for counter in others.into_iter().chain([&self.left_out, &self.unlisted, &self.invalid]) {
-            counter.with_label_values(&[name]);
+/// The page of all metrics.
+pub fn page(network: &Network) -> String {
+    let (intake, met) = (&network.intake, &network.met);
+    let standings = intake.standings(now());
+    let dropped = |it: &Output| it.dropped();
+    let mut page = String::new();
+    for (name, help, label, value) in OF_NODES {
+        page += &head(name, help);
+        for it in standings.iter().filter(|it| it.is_peer || label == "author") {
+            page += &format!("relay_{name}{{{label}=\"{}\"}} {}\n", it.name, value(it));
         }
     }
+    for (name, help, value) in [
+        ("handshakes", "Connections that have proved no key", met.handshakes.load(Relaxed)),
+        ("published_total", "Own messages", intake.published()),
+        ("elsewhere_total", "Published elsewhere by this key", intake.elsewhere()),
+        ("wakes_total", "How often something was due", intake.wakes()),
+        ("strangers_total", "Who proved no listed key", met.strangers.load(Relaxed)),
+        ("pushed_out_total", "Handshakes that lost a place", met.pushed_out.load(Relaxed)),
+        ("turned_away_total", "Who got no place", met.turned_away.load(Relaxed)),
+        ("output_dropped_total", "Lines nobody read", network.output.as_ref().map_or(0, dropped)),
+        ("log_dropped_total", "Log lines nobody read", dropped(&network.log)),
+    ] {
+        page += &format!("{}relay_{name} {value}\n", head(name, help));
+    }
+    page
+}
+
+fn head(name: &str, help: &str) -> String {
+    let kind = if name.ends_with("_total") { "counter" } else { "gauge" };
+    format!("# HELP relay_{name} {help}\n# TYPE relay_{name} {kind}\n")
 }
 
 /// Serves the newest connections for a scraper: each that comes ends the oldest.
-pub async fn serve_metrics(hub: Arc<Hub>, listener: TcpListener) {
+pub async fn serve_metrics(network: Arc<Network>, listener: TcpListener) {
     let mut served: VecDeque<JoinHandle<()>> = VecDeque::new();
     loop {
         let Ok((stream, _)) = listener.accept().await else {
             sleep(Duration::from_millis(100)).await;
             continue;
         };
-        let hub = hub.clone();
+        let network = network.clone();
         served.push_back(tokio::spawn(async move {
             let answers = service_fn(|request| {
-                let response = answer(&hub, &request);
+                let response = answer(&network, &request);
                 async { response }
             });
             let _ = timeout(PATIENCE, Http::new().serve_connection(stream, answers)).await;
@@ -99,10 +91,10 @@ pub async fn serve_metrics(hub: Arc<Hub>, listener: TcpListener) {
     }
 }
 
-fn answer(hub: &Hub, request: &Request<Body>) -> http::Result<Response<Body>> {
+fn answer(network: &Network, request: &Request<Body>) -> http::Result<Response<Body>> {
     let (status, body) = match (request.method(), request.uri().path()) {
-        (&Method::GET, "/metrics") => (StatusCode::OK, hub.metrics_page()),
-        (&Method::GET, "/healthz") => match hub.trouble() {
+        (&Method::GET, "/metrics") => (StatusCode::OK, page(network)),
+        (&Method::GET, "/healthz") => match network.intake.trouble() {
             None => (StatusCode::OK, "ok\n".to_owned()),
             Some(why) => (StatusCode::SERVICE_UNAVAILABLE, why + "\n"),
         },

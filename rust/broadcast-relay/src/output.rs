@@ -3,7 +3,6 @@
 use crate::identity::PeerId;
 use crate::lock::Mutex;
 use crate::message::Signed;
-use prometheus::IntCounter;
 use std::collections::VecDeque;
 use std::fs::File;
 use std::io::{self, ErrorKind, Write};
@@ -23,42 +22,46 @@ const REST: Duration = Duration::from_millis(100);
 #[derive(Default)]
 struct Lines {
     /// Authors in turn, so that who writes much holds up no other: how many bytes wait of each, and its lines.
-    waiting: VecDeque<(PeerId, usize, VecDeque<Vec<u8>>)>,
+    waiting: VecDeque<OfAuthor>,
     is_writing: bool,
     /// Whoever read them is gone.
     is_closed: bool,
+    dropped: u64,
 }
 
 #[derive(Clone)]
 pub struct Output {
     shared: Arc<(Mutex<Lines>, Condvar)>,
     most: usize,
-    dropped: IntCounter,
 }
 
 impl Output {
     /// Starts to write to a file, of which at most so many bytes wait of each author.
-    pub fn start(
-        name: &str,
-        file: impl AsFd,
-        most: usize,
-        dropped: &IntCounter,
-    ) -> io::Result<Output> {
-        let output = Output { shared: Arc::default(), most, dropped: dropped.clone() };
+    pub fn start(name: &str, file: impl AsFd, most: usize) -> io::Result<Output> {
+        let output = Output { shared: Arc::default(), most };
         let shared = output.shared.clone();
         // Not by `Stdout`, which keeps what it could not write.
         let mut out = File::from(file.as_fd().try_clone_to_owned()?);
         thread::Builder::new().name(name.into()).spawn(move || {
-            while write_all(&mut out, &next(&shared)) {}
+            let unread = loop {
+                let (batch, count) = next(&shared);
+                if !write_all(&mut out, &batch) {
+                    break count;
+                }
+            };
+            let mut lines = shared.0.lock();
+            lines.is_closed = true;
+            lines.dropped +=
+                unread + std::mem::take(&mut lines.waiting).iter().map(count).sum::<u64>();
+            drop(lines);
             tracing::warn!("nobody reads the output any more");
-            shared.0.lock().is_closed = true;
         })?;
         Ok(output)
     }
 
     /// Starts the log, which goes to standard error.
-    pub fn start_log(dropped: &IntCounter) -> io::Result<Output> {
-        let output = Output::start("log", io::stderr(), MAX_LOG, dropped)?;
+    pub fn start_log() -> io::Result<Output> {
+        let output = Output::start("log", io::stderr(), MAX_LOG)?;
         let filter = EnvFilter::try_from_default_env()
             .unwrap_or_else(|_| "warn,broadcast_relay=info".into());
         let log = tracing_subscriber::fmt().with_env_filter(filter).log_internal_errors(false);
@@ -72,7 +75,8 @@ impl Output {
         let mut lines = self.shared.0.lock();
         let waiting = lines.waiting.iter().find(|it| it.0 == author).map_or(0, |it| it.1);
         if lines.is_closed || waiting + line.len() > self.most {
-            return self.dropped.inc();
+            lines.dropped += 1;
+            return;
         }
         match lines.waiting.iter_mut().find(|it| it.0 == author) {
             Some((_, bytes, of_author)) => {
@@ -82,6 +86,16 @@ impl Output {
             None => lines.waiting.push_back((author, line.len(), VecDeque::from([line]))),
         }
         self.shared.1.notify_one();
+    }
+
+    /// How many lines were not printed, and never will be.
+    pub fn dropped(&self) -> u64 {
+        self.shared.0.lock().dropped
+    }
+
+    /// How many lines wait.
+    pub fn waiting(&self) -> u64 {
+        self.shared.0.lock().waiting.iter().map(count).sum()
     }
 
     /// Whether all is written, or will never be.
@@ -103,24 +117,31 @@ impl Write for Output {
     }
 }
 
-/// Waits for lines, and takes up to 16 KiB of them, and at least one. What was taken before is written then.
-fn next((lines, filled): &(Mutex<Lines>, Condvar)) -> Vec<u8> {
+type OfAuthor = (PeerId, usize, VecDeque<Vec<u8>>);
+
+fn count((.., lines): &OfAuthor) -> u64 {
+    lines.len() as u64
+}
+
+/// Waits for lines, and takes up to 16 KiB of them, and at least one. Returns them, and how many. What was taken before is written then.
+fn next((lines, filled): &(Mutex<Lines>, Condvar)) -> (Vec<u8>, u64) {
     let mut lines = lines.lock();
     lines.is_writing = false;
     let lines = filled.wait_while(lines, |it| it.waiting.is_empty());
     let mut lines = lines.unwrap_or_else(PoisonError::into_inner);
     lines.is_writing = true;
-    let mut batch = Vec::new();
+    let (mut batch, mut count) = (Vec::new(), 0);
     while batch.len() < 1 << 14
         && let Some((author, bytes, mut of_author)) = lines.waiting.pop_front()
         && let Some(line) = of_author.pop_front()
     {
         batch.extend_from_slice(&line);
+        count += 1;
         if !of_author.is_empty() {
             lines.waiting.push_back((author, bytes - line.len(), of_author));
         }
     }
-    batch
+    (batch, count)
 }
 
 /// Writes all, and tries again what fails, as on a full disk. Returns whether somebody may still read it.
@@ -202,13 +223,12 @@ mod tests {
     #[test]
     fn what_is_being_written_is_not_done() {
         let (out, mut reader) = UnixStream::pair().unwrap();
-        let dropped = IntCounter::new("dropped", "Lines").unwrap();
-        let output = Output::start("test", &out, MAX_WAITING, &dropped).unwrap();
+        let output = Output::start("test", &out, MAX_WAITING).unwrap();
         drop(out);
         // More than the system keeps.
         let line = vec![b'x'; MAX_WAITING];
         output.print([1; 32], line.clone());
-        assert!(dropped.get() == 0 && !output.is_done());
+        assert!(output.dropped() == 0 && !output.is_done());
         while !output.shared.0.lock().waiting.is_empty() {
             thread::sleep(REST);
         }
@@ -219,7 +239,7 @@ mod tests {
             thread::sleep(REST);
         }
         drop(reader);
-        while dropped.get() == 0 || !output.is_done() {
+        while output.dropped() == 0 || !output.is_done() {
             output.print([1; 32], line.clone());
             thread::sleep(REST);
         }
@@ -227,15 +247,14 @@ mod tests {
 
     #[test]
     fn an_author_that_writes_much_takes_no_room_and_no_turn_of_another() {
-        let dropped = IntCounter::new("dropped", "Lines").unwrap();
-        let output = Output { shared: Arc::default(), most: 6, dropped: dropped.clone() };
+        let output = Output { shared: Arc::default(), most: 6 };
         for line in ["a1", "a2", "a3", "a4", "b1", "b2"] {
             output.print([line.as_bytes()[0]; 32], line.into());
         }
-        assert_eq!((next(&output.shared), dropped.get()), (b"a1b1a2b2a3".to_vec(), 1));
+        assert_eq!((next(&output.shared), output.dropped()), ((b"a1b1a2b2a3".to_vec(), 5), 1));
         // What was taken has room again.
         output.print([b'a'; 32], b"a5 a6.".to_vec());
-        assert_eq!((next(&output.shared), dropped.get()), (b"a5 a6.".to_vec(), 1));
+        assert_eq!((next(&output.shared), output.dropped()), ((b"a5 a6.".to_vec(), 1), 1));
     }
 
     #[test]

@@ -7,9 +7,9 @@
 //! Their handshakes are computed at a pace for all addresses together, so that they take a bounded part of a processor, and of each
 //! address in turn, so that no address takes the pace of another.
 
+use crate::gossip::{Bucket, SECOND, Time};
 use crate::lock::Mutex;
 use crate::now;
-use broadcast_relay::gossip::{Bucket, SECOND, Time};
 use std::cmp::Reverse;
 use std::collections::{HashMap, VecDeque};
 use std::net::{IpAddr, Ipv6Addr};

@@ -1,10 +1,10 @@
-//! Frames: a length of four bytes, big-endian, a byte that tells the kind, and the body.
+//! Packets: a length of four bytes, big-endian, a byte that tells the kind, and the body.
 
+use crate::gossip::{Coverage, Report};
 use crate::identity::PeerId;
 use crate::invalid;
 use crate::message::MAX_MESSAGE;
 use broadcast_node::Span;
-use broadcast_relay::gossip::{Coverage, Report};
 use bytes::{Buf, Bytes};
 use std::io;
 use tokio::io::{AsyncRead, AsyncReadExt};
@@ -12,31 +12,33 @@ use tokio::io::{AsyncRead, AsyncReadExt};
 /// The version of the protocol, which each side says first.
 pub const VERSION: u16 = 5;
 /// The most bytes of a kind and a body.
-const MAX_FRAME: usize = MAX_MESSAGE + 1;
+const MAX_PACKET: usize = MAX_MESSAGE + 1;
 
+/// What relays send each other.
 #[derive(Clone, Debug, PartialEq, Eq)]
-pub enum Frame {
+pub enum Packet {
     /// Nothing: the peer is alive.
     Beat,
+    /// A signed message, as [`crate::message::Signed`] has it.
     Message(Bytes),
-    /// Of an author.
+    /// What the peer has of an author.
     Report(PeerId, Report),
-    /// The version that the peer speaks. It is the first frame, and the same in all versions.
+    /// The version that the peer speaks. It is the first packet, and the same in all versions.
     Hello(u16),
 }
 
-impl Frame {
-    /// Appends the frame to what is to be written.
+impl Packet {
+    /// Appends the packet to what is to be written.
     pub fn encode(&self, out: &mut Vec<u8>) {
         let start = out.len();
         out.extend([0; 4]);
         match self {
-            Frame::Beat => out.push(0),
-            Frame::Message(bytes) => {
+            Packet::Beat => out.push(0),
+            Packet::Message(bytes) => {
                 out.push(1);
                 out.extend_from_slice(bytes);
             }
-            Frame::Report(author, report) => {
+            Packet::Report(author, report) => {
                 out.push(2);
                 out.extend_from_slice(author);
                 out.extend(report.since.to_be_bytes());
@@ -48,7 +50,7 @@ impl Frame {
                 let ends = spans.iter().flat_map(|it| [it.from, it.to]);
                 ends.for_each(|it| out.extend(it.to_be_bytes()));
             }
-            Frame::Hello(version) => {
+            Packet::Hello(version) => {
                 out.push(3);
                 out.extend(version.to_be_bytes());
             }
@@ -57,20 +59,20 @@ impl Frame {
         out[start..start + 4].copy_from_slice(&len.to_be_bytes());
     }
 
-    fn decode(mut bytes: Bytes) -> Option<Frame> {
+    fn decode(mut bytes: Bytes) -> Option<Packet> {
         let kind = *bytes.first()?;
         let body = bytes.split_off(1);
         match kind {
-            0 if body.is_empty() => Some(Frame::Beat),
-            1 => Some(Frame::Message(body)),
+            0 if body.is_empty() => Some(Packet::Beat),
+            1 => Some(Packet::Message(body)),
             2 => report(body),
-            3 => body.first_chunk().map(|it| Frame::Hello(u16::from_be_bytes(*it))),
+            3 => body.first_chunk().map(|it| Packet::Hello(u16::from_be_bytes(*it))),
             _ => None,
         }
     }
 }
 
-fn report(mut body: Bytes) -> Option<Frame> {
+fn report(mut body: Bytes) -> Option<Packet> {
     if body.len() < 32 + 8 + 8 + 8 + 1 {
         return None;
     }
@@ -80,7 +82,7 @@ fn report(mut body: Bytes) -> Option<Frame> {
     let is_held = body.get_u8();
     let coverage = coverage(&body)?;
     let report = Report { coverage, since, room, done, is_held: is_held == 1 };
-    (is_held < 2).then_some(Frame::Report(author, report))
+    (is_held < 2).then_some(Packet::Report(author, report))
 }
 
 /// Reads a floor, and the ends of each interval above it. The verified library decides whether they are a coverage.
@@ -93,16 +95,16 @@ fn coverage(bytes: &[u8]) -> Option<Coverage> {
     read.filter(|_| left.is_empty())
 }
 
-/// Reads a frame. What is no frame is invalid data.
-pub async fn read_frame(from: &mut (impl AsyncRead + Unpin)) -> io::Result<Frame> {
-    let wrong = || invalid("what is no frame");
+/// Reads a packet. What is none is [`io::ErrorKind::InvalidData`].
+pub async fn read_packet(from: &mut (impl AsyncRead + Unpin)) -> io::Result<Packet> {
+    let wrong = || invalid("what is no packet");
     let len = from.read_u32().await? as usize;
-    if len == 0 || len > MAX_FRAME {
+    if len == 0 || len > MAX_PACKET {
         return Err(wrong());
     }
     let mut bytes = vec![0; len];
     from.read_exact(&mut bytes).await?;
-    Frame::decode(bytes.into()).ok_or_else(wrong)
+    Packet::decode(bytes.into()).ok_or_else(wrong)
 }
 
 #[cfg(test)]
@@ -111,36 +113,36 @@ mod tests {
     use crate::message::Signed;
     use rand::{Rng, SeedableRng, rngs::StdRng};
 
-    fn bytes_of(frame: &Frame) -> Vec<u8> {
+    fn bytes_of(packet: &Packet) -> Vec<u8> {
         let mut bytes = Vec::new();
-        frame.encode(&mut bytes);
+        packet.encode(&mut bytes);
         bytes
     }
 
     #[tokio::test]
-    async fn a_frame_is_read_back() {
+    async fn a_packet_is_read_back() {
         let spans = (5..=67).map(|it| Span { from: 2 * it, to: 2 * it + 1 }).collect();
         let coverage = Coverage::reported(5, spans).unwrap().unwrap();
         let report = |coverage, is_held| {
-            Frame::Report([1; 32], Report { coverage, since: 7, room: 9, done: 8, is_held })
+            Packet::Report([1; 32], Report { coverage, since: 7, room: 9, done: 8, is_held })
         };
-        for frame in [
-            Frame::Beat,
-            Frame::Message(vec![9; MAX_MESSAGE].into()),
+        for packet in [
+            Packet::Beat,
+            Packet::Message(vec![9; MAX_MESSAGE].into()),
             report(coverage, true),
             report(Coverage::new(0).unwrap(), false),
-            Frame::Hello(VERSION),
+            Packet::Hello(VERSION),
         ] {
-            let bytes = bytes_of(&frame);
-            assert_eq!(read_frame(&mut bytes.as_ref()).await.unwrap(), frame);
-            let cut = read_frame(&mut &bytes[..bytes.len() - 1]).await.unwrap_err();
+            let bytes = bytes_of(&packet);
+            assert_eq!(read_packet(&mut bytes.as_ref()).await.unwrap(), packet);
+            let cut = read_packet(&mut &bytes[..bytes.len() - 1]).await.unwrap_err();
             assert_eq!(cut.kind(), io::ErrorKind::UnexpectedEof);
         }
     }
 
     #[tokio::test]
-    async fn what_is_no_frame_is_invalid() {
-        let report = Frame::Report([1; 32], Report::up_to(5));
+    async fn what_is_no_packet_is_invalid() {
+        let report = Packet::Report([1; 32], Report::up_to(5));
         let mut many = bytes_of(&report);
         (5..=68_u64)
             .for_each(|it| many.extend([2 * it, 2 * it + 1].map(u64::to_be_bytes).concat()));
@@ -149,7 +151,7 @@ mod tests {
         for bytes in
             [&[0, 0, 0, 0][..], &[0, 0, 0, 1, 7], &[0, 0, 0, 2, 2, 0], &[255, 0, 0, 0], &many]
         {
-            let why = read_frame(&mut &*bytes).await.unwrap_err();
+            let why = read_packet(&mut &*bytes).await.unwrap_err();
             assert_eq!(why.kind(), io::ErrorKind::InvalidData);
         }
     }
@@ -164,10 +166,10 @@ mod tests {
                 *kind %= 5;
             }
             let bytes = Bytes::from(bytes);
-            if let Some(frame) = Frame::decode(bytes.clone())
-                && !matches!(frame, Frame::Hello(_))
+            if let Some(packet) = Packet::decode(bytes.clone())
+                && !matches!(packet, Packet::Hello(_))
             {
-                assert_eq!(bytes_of(&frame)[4..], bytes);
+                assert_eq!(bytes_of(&packet)[4..], bytes);
             }
             if let Ok(message) = Signed::decode(bytes) {
                 assert!(!message.is_signed() && message.text().len() <= 400);

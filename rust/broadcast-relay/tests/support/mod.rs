@@ -5,6 +5,7 @@
 pub mod follower;
 pub mod hostile;
 pub mod lab;
+pub mod link;
 pub mod strangers;
 
 use lab::Lab;
