@@ -25,7 +25,7 @@ HEIGHT = TOP_LINE + ROW * len(ROWS) + 14
 
 
 def arrow(y, start, end, colour, arrives):
-    """An arrow from a lane to another, or to half of the way, where a cross ends it."""
+    """An arrow from a lane to another. One that does not arrive ends in a cross before it."""
     sign = 1 if end > start else -1
     last = end - 8 * sign if arrives else end - 130 * sign
     dashes = "none" if arrives else "6 4"
@@ -47,7 +47,7 @@ def row(y, arrows, colour, arrives):
 
 def lines():
     yield f'<svg xmlns="http://www.w3.org/2000/svg" viewBox="0 0 {WIDTH} {HEIGHT}" font-family="system-ui,sans-serif" font-size="13" role="img">'
-    yield "<title>Relays report what they have; who has room is sent what it lacks; what does not come is asked of another</title>"
+    yield "<title>Relays report what they have, are sent what they lack, and ask another relay for what does not come</title>"
     yield f'<rect width="{WIDTH}" height="{HEIGHT}" rx="6" fill="#fff"/>'
     for x, name, said in LANES:
         yield f'<path d="M{x} 44V{HEIGHT - 8}" stroke="#bbb"/>'
