@@ -1,6 +1,6 @@
 /* The functions of libbroadcast_c.a: a store, which caches messages that the caller keeps; the wire
  * format of a message; the log of an author, which a relay keeps; coverages, which say what a relay has
- * had; what a relay sends; buckets, which say what a rate allows; counters; and SHA-256.
+ * had; buckets, which say what a rate allows; counters; and SHA-256.
  *
  * `make install PREFIX=..` installs the library, and its file of pkg-config says how a program is
  * linked. Without that compile ffi/heap.c with the program, by which the library allocates, and name
@@ -18,7 +18,7 @@
  *  - There is no call from a signal handler, or in the forked child of a process with threads.
  *
  * A length `x_len` is the number of elements of the array `x`: of bytes only if `x` points to bytes,
- * else of tickets, handles, keys, digests, spans, messages or sums, as each comment says.
+ * else of tickets, handles, keys, digests, stamps or spans, as each comment says.
  *
  * A function that fills the buffer `out` of `out_len` elements copies what there is to the front of
  * the buffer, as far as there is room, and leaves the rest of it. The function sets `needed` to the
@@ -41,7 +41,7 @@ extern "C" {
 
 /* The status that a call returns. After any other than OK and WAITS the store or log is as it was. After
  * EMPTY, MEMORY, NONE, TOO_LONG and NO_COVERAGE so is each variable that the call could have set, and
- * after SHORT of `broadcast_coverage_cover` and of the functions of a log each but `needed`. */
+ * after SHORT of the functions of a log each but `needed`. */
 enum {
     BROADCAST_OK = 0,
     BROADCAST_MEMORY = 1,         /* an allocation failed */
@@ -54,7 +54,7 @@ enum {
     BROADCAST_END_OF_BUFFER = 7,  /* the packet ends too early */
     BROADCAST_INVALID_LENGTH = 8, /* the packet's message is longer than allowed */
     BROADCAST_EXTRA_DATA = 9,     /* bytes follow the packet's message */
-    BROADCAST_NO_COVERAGE = 10    /* the spans are no coverage, or `stamp` is less than `prev` */
+    BROADCAST_NO_COVERAGE = 10    /* the spans are no coverage */
 };
 
 /* The outcome of taking a message under a key. */
@@ -128,13 +128,6 @@ typedef struct {
     uint64_t from;
     uint64_t to;
 } broadcast_span;
-
-/* A message on a relay's list of an author. */
-typedef struct {
-    uint64_t prev;  /* the stamp of the author's message before it */
-    uint64_t stamp; /* its own stamp */
-    uint64_t bytes; /* its size */
-} broadcast_listed;
 
 /* A message of an author, as a log keeps it. A log charges it `bytes` and 64 more. */
 typedef struct {
@@ -234,48 +227,17 @@ uint32_t broadcast_store_count(broadcast_store *store, broadcast_counts *out);
 /* ---- Coverages: which stamps of an author a relay has had. A coverage has all stamps from 1 to
  * `floor`, and those of at most 63 spans: the first begins after `floor`, each other one after the end
  * of the one before it, and each has a stamp. A call returns NO_COVERAGE if and only if what is passed
- * is not so. `spans_len`, `others_len` and `out_len` count spans. No call allocates. ---- */
+ * is not so. `spans_len` and `others_len` count spans. No call allocates. ---- */
 
 /* Reports whether the stamp was had: OK, NONE or NO_COVERAGE. The stamp 0 never was. */
 uint32_t broadcast_coverage_has(uint64_t floor, const broadcast_span *spans, size_t spans_len,
                                 uint64_t stamp);
-/* Sets `end` to that of the stamps which the coverage has one after another from `at` on, to `at` if
- * it lacks the next one: OK or NO_COVERAGE. */
-uint32_t broadcast_coverage_end(uint64_t floor, const broadcast_span *spans, size_t spans_len,
-                                uint64_t at, uint64_t *end);
 /* Sets `stamp` to the least one after `above` and up to `upto` that the other coverage has and the
  * first lacks: OK, NONE or NO_COVERAGE. */
 uint32_t broadcast_coverage_missing(uint64_t floor, const broadcast_span *spans, size_t spans_len,
                                     uint64_t other_floor, const broadcast_span *others,
                                     size_t others_len, uint64_t above, uint64_t upto,
                                     uint64_t *stamp);
-/* Covers the stamps after `prev` and up to `stamp` too. Sets `floor`, and fills `out` with the spans
- * after it: OK, SHORT, or NO_COVERAGE also if `stamp` is less than `prev`. If `stamp` is `prev`, the
- * coverage stays the same. If there are more than 63 spans then, the gap after `floor` is closed: its
- * stamps count as had. Sets `gap` to that gap, or to a span of no stamps. SHORT sets `needed` and
- * nothing else: call again with room for `needed` spans. Room for 63 is always enough. */
-uint32_t broadcast_coverage_cover(uint64_t *floor, const broadcast_span *spans, size_t spans_len,
-                                  uint64_t prev, uint64_t stamp, broadcast_span *out,
-                                  size_t out_len, size_t *needed, broadcast_span *gap);
-
-/* ---- What a relay sends: a list of an author's messages, and a peer that has reported a coverage of
- * that author. `list_len` and `in_flight_len` count messages, `sums_len` sums and `spans_len` spans.
- * Neither call allocates. ---- */
-
-/* Sets `index` to that of the message on the list which the peer is sent next: OK, NONE or
- * NO_COVERAGE. It is the first that the peer lacks and that is not in flight. There is none while the
- * bytes in flight reach `room`. A peer that is held back is sent nothing above the greatest stamp that
- * its coverage has. */
-uint32_t broadcast_outbox_next(const broadcast_listed *list, size_t list_len, uint64_t floor,
-                               const broadcast_span *spans, size_t spans_len, bool is_held,
-                               const broadcast_listed *in_flight, size_t in_flight_len,
-                               uint64_t room, size_t *index);
-/* Sets `bytes` to those of the messages on the list that the peer lacks: OK or NO_COVERAGE. The list
- * is in order of stamps. `sums` has a number in front of each message and one behind the last: each
- * is the one before it and the bytes of the message between them. Otherwise `bytes` is any number. */
-uint32_t broadcast_outbox_lag(const broadcast_listed *list, size_t list_len, const uint64_t *sums,
-                              size_t sums_len, uint64_t floor, const broadcast_span *spans,
-                              size_t spans_len, uint64_t *bytes);
 
 /* ---- The log of an author: the newest of its messages that fit a budget of bytes, in whatever order,
  * how often and from whomever they come. Each message is charged its size and 64 bytes more. Up to the

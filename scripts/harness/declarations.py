@@ -7,7 +7,7 @@ from harness.common import TOP
 
 EXPORTS = TOP / "crates" / "broadcast_c" / "src"
 CORE = TOP / "crates" / "broadcast_core" / "src"
-GOSSIP = [TOP / "crates" / "gossip" / "src" / it for it in ("span.rt", "message.rt", "outbox.rt", "bucket.rt")]
+GOSSIP = [TOP / "crates" / "gossip" / "src" / it for it in ("span.rt", "message.rt", "bucket.rt")]
 HEADER = TOP / "ffi" / "broadcast_c.h"
 RUST = TOP / "rust" / "broadcast-node" / "src"
 
@@ -15,7 +15,7 @@ RUST = TOP / "rust" / "broadcast-node" / "src"
 STRUCTS = {
     "StoreHandle": "broadcast_store", "LogHandle": "broadcast_log", "Message": "broadcast_message", "Name": "broadcast_name", "Stored": "broadcast_stored",
     "Counts": "broadcast_counts", "Counters": "broadcast_counters", "Place": "broadcast_place",
-    "Span": "broadcast_span", "Listed": "broadcast_listed", "Bucket": "broadcast_bucket",
+    "Span": "broadcast_span", "Bucket": "broadcast_bucket",
 }
 # What Rust calls the types that cross as their one field, and what each is.
 TRANSPARENT = {
@@ -55,7 +55,7 @@ class Texts:
             it = re.search(BYTES_STRUCT % name, (CORE / file).read_text())[1]
             exports = re.sub(rf"&(mut )?{name}\b", rf"&\1{it}", exports)
             exports = re.sub(rf"&(mut )?\[{name}\]", rf"&\1[{it}]", exports)
-        names = ("raw.rs", "key.rs", "tickets.rs", "coverage.rs", "log.rs", "outbox.rs", "bucket.rs", "node/books.rs")
+        names = ("raw.rs", "key.rs", "tickets.rs", "coverage.rs", "log.rs", "bucket.rs", "node/books.rs")
         rust = "\n".join((RUST / it).read_text() for it in names)
         return Texts(exports, HEADER.read_text(), rust)
 

@@ -9,7 +9,7 @@ FLAGS = ["-std=c99", "-Wall", "-Wextra", "-Wpedantic", "-Werror", "-O1"]
 WRAPPED = "-Wl,--wrap=malloc,--wrap=realloc,--wrap=free"
 # With what each program is linked beside the library.
 PROGRAMS = {
-    "hello": ["heap.c"], "packet": ["heap.c"], "coverage": ["heap.c"], "outbox": ["heap.c"], "bucket": ["heap.c"],
+    "hello": ["heap.c"], "packet": ["heap.c"], "coverage": ["heap.c"], "bucket": ["heap.c"],
     "store": ["heap.c"], "log": ["heap.c"], "refused": ["heap.c", WRAPPED], "blocks": [],
 }
 STORY = """\

@@ -6,6 +6,5 @@ mod counters;
 mod coverage;
 mod digest;
 mod log;
-mod outbox;
 mod packet;
 mod store;

@@ -3,7 +3,7 @@ use Rattle.std.proofs.Common.{◌≡◌, ◌<◌, ℕ, true, false, Bool, List, 
 use Rattle.std.specs.Prelude.{nat_eq, not, ◌&&◌, ◌||◌, if◌then◌else◌}
 use Rattle.std.proofs.lemmas.Bool.{eqb-true}
 use Rattle.gossip.specs.declared.message.Message.{Message}
-use Rattle.gossip.specs.Newest.{charge, is_sound, has_stamp, received, Rise, HaveTheSame, IsOneAStamp}
+use Rattle.gossip.specs.Newest.{is_sound, has_stamp, received, Rise, HaveTheSame, IsOneAStamp}
 use Rattle.gossip.specs.Held.{Held, after_all, heard}
 use Rattle.gossip.specs.Members.{Has}
 use Rattle.gossip.proofs.Keeping.{in_order, kept, rise_in_order}

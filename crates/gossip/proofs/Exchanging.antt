@@ -1,5 +1,5 @@
 -- An exchange: each message that is sent is new, or is the first of its stamp that is sent above a report's top.
-use Rattle.std.proofs.Common.{◌≡◌, ◌≤◌, ◌<◌, ℕ, ◌+◌, true, false, Bool, List, [], ◌∷◌, arith, refl, sym, subst, ◌∙◌, ◌⊎◌, inl, inr, Contains, map}
+use Rattle.std.proofs.Common.{◌≡◌, ◌≤◌, ◌<◌, ℕ, ◌+◌, true, false, Bool, List, [], ◌∷◌, arith, refl, subst, ◌⊎◌, inl, inr, Contains, map}
 use Rattle.std.specs.Prelude.{nat_le, nat_lt, nat_eq, not, ◌&&◌, ◌||◌, if◌then◌else◌}
 use Rattle.std.proofs.lemmas.Bool.Decides.{nat_tests}
 use Rattle.std.proofs.lemmas.Bool.{le-leb, leb-true, leb-false, lt-ltb, ltb-true, le-ltb, ltb-false, and_parts, and_from}
@@ -10,10 +10,10 @@ use Rattle.gossip.specs.Spans.{is_in, is_had, top_of}
 use Rattle.gossip.specs.Newest.{charge, is_sound, has_stamp, Rise}
 use Rattle.gossip.specs.Held.{Held, IsHeld, Later, is_known, total, inserted, staying, floor_with, is_new, with_new, after, answer}
 use Rattle.gossip.specs.Showing.{span_of, covered, AreCovered}
-use Rattle.gossip.specs.Sending.{is_lacking, is_due, NoneDue, IsNext}
+use Rattle.gossip.specs.Sending.{is_due, NoneDue, IsNext}
 use Rattle.gossip.specs.Placing.{tally, unknown, later_than}
 use Rattle.gossip.specs.Members.{Has}
-use Rattle.gossip.proofs.Keeping.{rise_inserted, floor_rises}
+use Rattle.gossip.proofs.Keeping.{rise_inserted}
 use Rattle.gossip.proofs.Fitting.{has_from, above}
 use Rattle.gossip.proofs.Arriving.{known_stays, new_keeps, new_unknown, none_left, none_right, after_held, says, or_left, or_right, eq_self}
 

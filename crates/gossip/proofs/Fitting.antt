@@ -1,7 +1,6 @@
 -- The newest messages that fit, searched for in a history, are those that are kept in order.
 use Rattle.std.proofs.Common.{◌≡◌, ◌≤◌, ◌<◌, ℕ, zero, suc, ◌+◌, true, false, Bool, List, [], ◌∷◌, length, arith, refl, sym, subst, ap, ◌∙◌, ◌⊎◌, inl, inr, Contains}
 use Rattle.std.specs.Prelude.{nat_le, nat_lt, nat_eq, not, ◌&&◌, ◌||◌, if◌then◌else◌, slice_index_or}
-use Rattle.std.proofs.lemmas.Bool.Decides.{nat_tests}
 use Rattle.std.proofs.lemmas.Bool.{le-leb, leb-false, leb-true, lt-leb}
 use Rattle.gossip.specs.declared.message.Message.{Message}
 use Rattle.gossip.specs.Newest.{charge, is_sound, has_stamp, received, charge_from, Rise, IsNewest, AreNewest, IsFloor}

@@ -5,7 +5,7 @@ use Rattle.std.proofs.lemmas.Bool.Decides.{nat_tests}
 use Rattle.gossip.specs.declared.span.Span.{Span}
 use Rattle.gossip.specs.Spans.{is_in, is_had, IsApart}
 use Rattle.gossip.specs.Missing.{IsRunEnd, HasAll, IsFirstMissing}
-use Rattle.gossip.proofs.Joining.{none_before, outside, either}
+use Rattle.gossip.proofs.Covering.{none_before, outside, either}
 
 beyond : (s a b : ℕ) → b < s → (nat_lt a s && nat_le s b) ≡ false
 beyond s a b h = grind (arith, nat_tests)

@@ -1,11 +1,11 @@
 pub mod Arriving
 pub mod Bare
 pub mod Converging
+pub mod Covering
 pub mod Exchanging
 pub mod Finding
 pub mod Fitting
 pub mod Granting
-pub mod Joining
 pub mod Keeping
 pub mod Lacking
 pub mod Lagging

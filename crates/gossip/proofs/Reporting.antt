@@ -13,7 +13,7 @@ use Rattle.gossip.specs.Cutting.{shown}
 use Rattle.gossip.specs.Members.{Has}
 use Rattle.gossip.proofs.Fitting.{has_from, contains_from}
 use Rattle.gossip.proofs.Converging.{there_is}
-use Rattle.gossip.proofs.Joining.{had_up_to_top}
+use Rattle.gossip.proofs.Covering.{had_up_to_top}
 
 or_right : (a b : Bool) → b ≡ true → (a || b) ≡ true
 or_right true b h = refl

@@ -1,10 +1,9 @@
 -- What messages leave, one after another.
 use Rattle.std.proofs.Common.{◌≡◌, ◌<◌, ℕ, true, false, List, [], ◌∷◌, arith, refl, sym, subst, ◌⊎◌, inl, inr, Contains}
-use Rattle.std.specs.Prelude.{nat_le, nat_lt, if◌then◌else◌}
-use Rattle.std.proofs.lemmas.Bool.Decides.{nat_tests}
+use Rattle.std.specs.Prelude.{nat_le, if◌then◌else◌}
 use Rattle.std.proofs.lemmas.Bool.{leb-false, lt-ltb}
 use Rattle.gossip.specs.declared.message.Message.{Message}
-use Rattle.gossip.specs.Newest.{charge, is_sound, has_stamp}
+use Rattle.gossip.specs.Newest.{is_sound, has_stamp}
 use Rattle.gossip.specs.Held.{Held, IsHeld, is_known, inserted, staying, floor_with, is_new, with_new, after, after_all, is_listed, listed, heard}
 use Rattle.gossip.specs.Members.{Has}
 use Rattle.gossip.proofs.Keeping.{in_order, plain, kept, all_more, rise_inserted}

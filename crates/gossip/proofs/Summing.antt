@@ -1,16 +1,13 @@
 -- The sums behind messages, and what messages up to a stamp are charged.
-use Rattle.std.proofs.Common.{◌≡◌, ◌≤◌, ◌<◌, ℕ, zero, suc, ◌+◌, ◌-◌, ◌++◌, ◌^◌, ◌%◌, true, false, List, [], ◌∷◌, length, take, drop, get_or, arith, refl, sym, ap, ◌∙◌, map}
+use Rattle.std.proofs.Common.{◌≡◌, ◌≤◌, ◌<◌, ℕ, zero, suc, ◌+◌, ◌-◌, ◌++◌, ◌^◌, ◌%◌, true, false, List, [], ◌∷◌, length, take, drop, get_or, arith, refl, sym, ap, ◌∙◌}
 use Rattle.std.specs.Prelude.{nat_le, if◌then◌else◌}
 use Rattle.std.specs.List.{insert}
 use Rattle.std.proofs.lemmas.List.{get_or-take}
-use Rattle.std.proofs.lemmas.List.Sums.{sum_by-cons}
 use Rattle.std.proofs.lemmas.Bool.{leb-false, lt-leb}
 use Rattle.gossip.specs.declared.message.Message.{Message}
 use Rattle.gossip.specs.Newest.{charge, Rise}
 use Rattle.gossip.specs.Held.{total}
-use Rattle.gossip.specs.Outbox.{bytes_of}
 use Rattle.gossip.specs.Parts.{bytes_up_to}
-use Rattle.gossip.specs.Sending.{charged}
 use Rattle.gossip.specs.Placing.{up_to, sums_after, sum_behind}
 
 abbrev next_sum : ℕ → Message → ℕ
@@ -85,7 +82,7 @@ between s xs h g = rw (behind_is s xs h) (back s (total xs) h g)
     back : (s t : ℕ) → s < 2 ^ 64 → t < 2 ^ 64 → ((s + t) % 2 ^ 64 + (2 ^ 64 - s)) % 2 ^ 64 ≡ t
     back s t h g = omega (arith, h, g)
 
-none_up_to : (f s : ℕ) (xs : List Message) → Rise f xs → s ≤ f → bytes_up_to s (map charged xs) ≡ 0
+none_up_to : (f s : ℕ) (xs : List Message) → Rise f xs → s ≤ f → bytes_up_to s xs ≡ 0
 none_up_to f s [] r h = refl
 none_up_to f s (x ∷ xs) r h =
     let l = r.0 in
@@ -93,15 +90,11 @@ none_up_to f s (x ∷ xs) r h =
     rw (lt-leb x.stamp s (omega (arith, l, h)), i) refl
 
 -- the messages up to a stamp are those in front of its place
-pub front_is : (f s : ℕ) (xs : List Message) → Rise f xs → total (take (up_to s xs) xs) ≡ bytes_up_to s (map charged xs)
+pub front_is : (f s : ℕ) (xs : List Message) → Rise f xs → total (take (up_to s xs) xs) ≡ bytes_up_to s xs
 front_is f s [] r = refl
 front_is f s (x ∷ xs) r =
     (elim (nat_le x.stamp s) as (λ t. nat_le x.stamp s ≡ t → total (take (if t then suc (up_to s xs) else 0) (x ∷ xs))
-    ≡ (if t then charge x else 0) + bytes_up_to s (map charged xs)) [
+    ≡ (if t then charge x else 0) + bytes_up_to s xs) [
       | true ↦ λ e. (let i = front_is x.stamp s xs r.1 in omega (arith, i))
       | false ↦ λ e. (let none = none_up_to x.stamp s xs r.1 (let up = leb-false x.stamp s e in omega (arith, up)) in omega (arith, none))
     ]) refl
-
-pub total_is : (xs : List Message) → total xs ≡ bytes_of (map charged xs)
-total_is [] = refl
-total_is (x ∷ xs) = (let i = total_is xs in let e = sum_by-cons (λ m. m.bytes) (charged x) (map charged xs) in omega (arith, i, e))

@@ -4,7 +4,7 @@ use Rattle.std.specs.Prelude.{◌≤◌, ◌<◌, ◌+◌, ℕ, Bool, true, fals
 use Rattle.gossip.specs.declared.message.Message.{Message}
 use Rattle.gossip.specs.declared.message.Arrival.{Arrival}
 use Rattle.gossip.specs.declared.message.Arrived.{Arrived}
-use Rattle.gossip.specs.declared.message.Arrived.TheVariants.{Listed, Passed, Refused, Oversize, Untimely}
+use Rattle.gossip.specs.declared.message.Arrived.TheVariants.{Listed, Passed, Refused, Oversize}
 use Rattle.gossip.specs.Newest.{charge, is_sound, has_stamp, Rise}
 
 -- how a log is seen: its budget, its floor, and its list

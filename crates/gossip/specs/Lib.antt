@@ -3,7 +3,6 @@ pub mod Held
 pub mod Members
 pub mod Missing
 pub mod Newest
-pub mod Outbox
 pub mod Parts
 pub mod Placing
 pub mod Sending

@@ -1,11 +1,10 @@
 -- Believed.
 -- What a peer is sent next of a log's list, and what it lacks.
-use Rattle.std.specs.Prelude.{◌≡◌, ◌≤◌, ℕ, Bool, true, false, not, nat_eq, nat_le, nat_lt, ◌&&◌, ◌||◌, List, Contains}
+use Rattle.std.specs.Prelude.{◌≡◌, ◌≤◌, ℕ, Bool, true, false, not, nat_eq, nat_le, nat_lt, ◌&&◌, ◌||◌, ◌+◌, if◌then◌else◌, List, [], ◌∷◌, Contains}
 use Rattle.std.specs.List.{list_any}
 use Rattle.gossip.specs.Spans.{is_had, top_of}
 use Rattle.gossip.specs.declared.span.Span.{Span}
 use Rattle.gossip.specs.declared.message.Message.{Message}
-use Rattle.gossip.specs.declared.outbox.Listed.{Listed}
 use Rattle.gossip.specs.Newest.{charge}
 
 module _ (reported : List Span) (sent : ℕ) where
@@ -28,6 +27,7 @@ module _ (reported : List Span) (sent : ℕ) where
       pub due : is_due message ≡ true
       pub least : (m : Message) → Contains list m → is_due m ≡ true → message.stamp ≤ m.stamp
 
--- the message with what it is charged as its bytes
-abbrev pub charged : Message → Listed
-charged m = record { prev = m.prev; stamp = m.stamp; bytes = charge m }
+-- what the messages are charged that are lacking
+abbrev pub lag : List Span → List Message → ℕ
+lag reported [] = 0
+lag reported (m ∷ ms) = (if is_had m.stamp reported then 0 else charge m) + lag reported ms

@@ -1,6 +1,6 @@
 -- Believed.
 -- What a log covers.
-use Rattle.std.specs.Prelude.{◌≡◌, ℕ, true, List, ◌∷◌, map, Contains}
+use Rattle.std.specs.Prelude.{◌≡◌, true, List, ◌∷◌, map, Contains}
 use Rattle.gossip.specs.declared.span.Span.{Span}
 use Rattle.gossip.specs.declared.message.Message.{Message}
 use Rattle.gossip.specs.Spans.{is_had}

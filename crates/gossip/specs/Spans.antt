@@ -1,6 +1,6 @@
 -- Believed.
 -- Sets of stamps as lists of spans.
-use Rattle.std.specs.Prelude.{◌≡◌, ◌≤◌, ◌<◌, ℕ, min, max, nat_le, nat_lt, Bool, Option, None, Some, ◌&&◌, if◌then◌else◌, List, [], ◌∷◌, drop, length}
+use Rattle.std.specs.Prelude.{◌≡◌, ◌≤◌, ◌<◌, ℕ, nat_le, nat_lt, Bool, ◌&&◌, List, [], ◌∷◌, drop, length}
 use Rattle.std.specs.List.{list_any}
 use Rattle.gossip.specs.declared.span.Span.{Span}
 
@@ -54,54 +54,6 @@ pub record IsCoverage (most : ℕ) (spans : List Span) : Type 0 where
   pub filled : AreFilled (drop 1 spans)
   pub few : length spans ≤ most
 
--- the least span that has both
-abbrev pub hull : Span → Span → Span
-hull x y = record { from = min x.from y.from; to = max x.to y.to }
-
--- one more span, joined with those that it meets
-abbrev pub joined : Span → List Span → List Span
-joined x [] = x ∷ []
-joined x (y ∷ ys) =
-    if nat_lt x.to y.from then x ∷ y ∷ ys else (if nat_lt y.to x.from then y ∷ joined x ys else joined (hull x y) ys)
-
--- the same for a span that is still ahead of the rest, if there is one
-abbrev pub joined_with : Option Span → List Span → List Span
-joined_with None ys = ys
-joined_with (Some x) ys = joined x ys
-
--- how many spans are still ahead
-abbrev pub still : Option Span → ℕ
-still None = 0
-still (Some x) = 1
-
--- the oldest gap is closed
-abbrev pub closed : List Span → List Span
-closed [] = []
-closed (x ∷ []) = x ∷ []
-closed (x ∷ (y ∷ ys)) = hull x y ∷ ys
-
--- the oldest gap is closed if there are more spans than that
-abbrev pub shortened : ℕ → List Span → List Span
-shortened most spans = if nat_lt most (length spans) then closed spans else spans
-
 -- the span of no stamps
 abbrev pub nothing : Span
 nothing = record { from = 0; to = 0 }
-
--- the oldest gap: from the end of the first span to the beginning of the second
-abbrev pub oldest_gap : List Span → Span
-oldest_gap [] = nothing
-oldest_gap (x ∷ []) = nothing
-oldest_gap (x ∷ (y ∷ ys)) = record { from = x.to; to = y.from }
-
--- what is given up: the oldest gap, if there are more spans than that
-abbrev pub given_up : ℕ → List Span → Span
-given_up most spans = if nat_lt most (length spans) then oldest_gap spans else nothing
-
--- what is had with one more span
-abbrev pub with_had : Span → List Span → List Span
-with_had x had = shortened 64 (joined x had)
-
--- the gap that is given up for one more span
-abbrev pub gap_for : Span → List Span → Span
-gap_for x had = given_up 64 (joined x had)

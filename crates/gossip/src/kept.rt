@@ -7,10 +7,9 @@ ghost use Rattle.std.specs.Vec.{vec_len, vec_capacity};
 ghost use Rattle.gossip.specs.declared.message.Message.{Message};
 ghost use Rattle.gossip.specs.Newest.{charge, has_stamp, Rise};
 ghost use Rattle.gossip.specs.Spans.{IsApart};
-ghost use Rattle.gossip.specs.Outbox.{lag};
 ghost use Rattle.gossip.specs.Parts.{bytes_up_to};
 ghost use Rattle.gossip.specs.Cutting.{shown};
-ghost use Rattle.gossip.specs.Sending.{charged, is_lacking, NoneDue, IsNext};
+ghost use Rattle.gossip.specs.Sending.{is_lacking, lag, NoneDue, IsNext};
 ghost use Rattle.gossip.specs.Placing.{up_to, sums_after, sum_behind, IsRun};
 ghost use Rattle.gossip.specs.Held.{find, total, inserted, staying, leaving, floor_with};
 
@@ -185,7 +184,7 @@ impl Kept {
 
 /// Returns the floor and the listed messages as at most `MOST` spans, of which the first is up to
 /// the floor, cut off above.
-pub(crate) fn shown(list: &VecDeque<Message>, floor: u64) -> ArrayVec<Span, 65>
+pub(crate) fn shown(list: &VecDeque<Message>, floor: u64) -> ArrayVec<Span, 64>
     ensures { result.items ≡ shown 63 (record { from = 0; to = floor }) list.now.items }
 {
     let mut spans = ArrayVec::new();
@@ -275,7 +274,7 @@ impl Kept {
         requires rises { Rise self.now.floor self.now.list.items }
         requires sums { self.now.sums.items ≡ sums_after self.now.base self.now.list.items }
         requires within { total self.now.list.items ≤ budget }
-        ensures { result ≡ bytes_up_to stamp (map charged self.now.list.items) }
+        ensures { result ≡ bytes_up_to stamp self.now.list.items }
     {
         let before = sum_behind(self.base, &self.sums, 0);
         let count = self.up_to(stamp);
@@ -289,7 +288,7 @@ impl Kept {
         requires rises { Rise self.now.floor self.now.list.items }
         requires within { total self.now.list.items ≤ budget }
         requires apart { IsApart spans.now }
-        ensures { result ≡ lag spans.now (map charged self.now.list.items) }
+        ensures { result ≡ lag spans.now self.now.list.items }
     {
         let mut bytes = self.bytes(budget);
         for span in spans {

@@ -10,7 +10,6 @@ mod kept;
 pub mod laws;
 pub mod log;
 pub mod message;
-pub mod outbox;
 pub mod span;
 
 pub use bucket::{Bucket, Call, charge_all};
@@ -18,5 +17,4 @@ pub use coverage::Coverage;
 pub use laws::{converge, exchange, run_log};
 pub use log::Log;
 pub use message::{Arrival, Arrived, CHARGE, Message};
-pub use outbox::{Listed, bytes_of, lag, lag_by_sums, next};
 pub use span::Span;

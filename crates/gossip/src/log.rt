@@ -6,9 +6,8 @@ ghost use Rattle.std.specs.Prelude.{IfOk, OnOk, OnErr, IsSome, IfSome, IfNone};
 ghost use Rattle.gossip.specs.declared.message.Message.{Message};
 ghost use Rattle.gossip.specs.declared.message.Arrived.TheVariants.{Untimely};
 ghost use Rattle.gossip.specs.Spans.{IsCoverage, is_had, top_of};
-ghost use Rattle.gossip.specs.Outbox.{lag};
 ghost use Rattle.gossip.specs.Showing.{covered};
-ghost use Rattle.gossip.specs.Sending.{charged, NoneDue, IsNext};
+ghost use Rattle.gossip.specs.Sending.{lag, NoneDue, IsNext};
 ghost use Rattle.gossip.specs.Held.{is_known, find, total, after, left_for, answer, IsHeld};
 
 use crate::coverage::Coverage;
@@ -225,7 +224,7 @@ impl Log {
     /// Returns what the listed messages are charged that the report does not show. It takes the
     /// time of a few look-ups for each span of the report.
     pub fn lag(&self, reported: &Coverage) -> u64
-        ensures { result ≡ lag reported.now (map charged self.now.list) }
+        ensures { result ≡ lag reported.now self.now.list }
     {
         self.kept.lag_behind(self.budget, reported.spans())
     }

@@ -1,6 +1,6 @@
 //! A span of an author's stamps.
 ghost use Rattle.std.specs.Prelude.{◌≡◌};
-ghost use Rattle.gossip.specs.Spans.{is_in, hull, nothing};
+ghost use Rattle.gossip.specs.Spans.{is_in, nothing};
 
 /// The stamps after `from` and up to `to`.
 #[repr(C)]
@@ -16,24 +16,6 @@ impl Span {
         ensures { result ≡ is_in stamp self }
     {
         self.from < stamp && stamp <= self.to
-    }
-
-    /// Returns the least span that has the stamps of both.
-    pub fn hull(self, other: Span) -> Span
-        ensures { result ≡ hull self other }
-    {
-        Span {
-            from: if self.from < other.from {
-                self.from
-            } else {
-                other.from
-            },
-            to: if self.to < other.to {
-                other.to
-            } else {
-                self.to
-            },
-        }
     }
 }
 

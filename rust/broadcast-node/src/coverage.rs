@@ -20,14 +20,11 @@ pub struct Span {
 /// # fn main() -> Result<(), broadcast_node::Error> {
 /// use broadcast_node::{Coverage, Span};
 ///
-/// let mut had = Coverage::new(5)?; // the stamps 1 to 5
-/// had.cover(7, 9)?; // a message of the stamp 9, whose author sent 7 before it
+/// // The stamps 1 to 5, and a message of the stamp 9, whose author sent 7 before it.
+/// let had = Coverage::reported(5, vec![Span { from: 7, to: 9 }])?.expect("the spans are in order");
 /// assert!(had.has(9) && had.has(8) && !had.has(7));
-/// assert_eq!(had.spans(), [Span { from: 7, to: 9 }]);
-/// assert_eq!((had.run_end(7), had.run_end(5)), (9, 5));
 /// assert_eq!(had.first_missing(&Coverage::new(9)?, 0, u64::MAX), Some(6));
-/// had.cover(5, 7)?;
-/// assert_eq!((had.floor(), had.spans()), (9, &[][..]));
+/// assert_eq!(Coverage::reported(5, vec![Span { from: 5, to: 9 }])?, None); // no gap after 5
 /// # Ok(())
 /// # }
 /// ```
@@ -80,27 +77,9 @@ impl Coverage {
         raw::coverage_has(self.floor, &self.spans, stamp) == Ok(Some(true))
     }
 
-    /// Returns the end of the stamps that were had one after another from `at` on: `at` if the next one was not had.
-    pub fn run_end(&self, at: u64) -> u64 {
-        raw::coverage_end(self, at).unwrap_or(at)
-    }
-
     /// Returns the least stamp after `above` and up to `upto` that the other coverage has and this one lacks.
     pub fn first_missing(&self, other: &Coverage, above: u64, upto: u64) -> Option<u64> {
         raw::coverage_missing(self, other, above, upto).ok().flatten()
-    }
-
-    /// Covers the stamps after `prev` and up to `stamp` too. Nothing changes if there are none, which is if `stamp` is at
-    /// most `prev`. If there are more than [`Coverage::MOST`] spans then, the gap after the floor is closed: its stamps
-    /// count as had. Returns that gap, or an empty span.
-    ///
-    /// # Errors
-    ///
-    /// [`Error::Memory`].
-    pub fn cover(&mut self, prev: u64, stamp: u64) -> Result<Span, Error> {
-        let span = Span { from: prev, to: stamp };
-        let gap = raw::coverage_cover(&mut self.floor, &mut self.spans, span)?;
-        Ok(gap.unwrap_or_default())
     }
 }
 

@@ -59,7 +59,6 @@ mod error;
 mod key;
 pub mod log;
 mod node;
-mod outbox;
 #[allow(unsafe_code, reason = "it calls the library")]
 mod raw;
 #[cfg(feature = "recorder")]
@@ -75,7 +74,6 @@ pub use coverage::{Coverage, Span};
 pub use error::{Error, Refused};
 pub use key::{Digest, Key, ParseError};
 pub use node::{Broadcast, Counters, Invalid, Limits, Message, Node, Received, Recipients};
-pub use outbox::Listed;
 pub use snapshot::{RestoreError, Snapshot};
 pub use taken::{Evicted, Held, Subscribed, Taken};
 pub use tickets::Ticket;

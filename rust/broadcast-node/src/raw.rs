@@ -4,12 +4,10 @@
 mod coverage;
 mod heap;
 mod log;
-mod outbox;
 mod store;
 
-pub use coverage::{coverage_cover, coverage_end, coverage_has, coverage_missing};
+pub use coverage::{coverage_has, coverage_missing};
 pub use log::OwnedLog;
-pub use outbox::{outbox_lag, outbox_next};
 #[cfg(not(feature = "recorder"))]
 pub use store::Store;
 
@@ -18,7 +16,7 @@ pub use store::Store;
 pub(crate) use {crate::recorder::Store, store::Store as PlainStore};
 
 use crate::log::Message;
-use crate::{Bucket, Counters, Digest, Error, Invalid, Key, Listed, Outcome, Span, Ticket};
+use crate::{Bucket, Counters, Digest, Error, Invalid, Key, Outcome, Span, Ticket};
 use std::ffi::c_void;
 use std::ops::Range;
 use std::ptr::null_mut;
@@ -104,17 +102,8 @@ unsafe extern "C" {
     fn broadcast_packet_read(bytes: *const u8, len: usize, max_len: usize, out: &mut Place) -> u32;
     pub safe fn broadcast_packet_head(len: usize, out: &mut [u8; 4]) -> u32;
     fn broadcast_coverage_has(floor: u64, spans: *const Span, len: usize, stamp: u64) -> u32;
-    fn broadcast_coverage_cover(floor: &mut u64, spans: *const Span, len: usize, prev: u64,
-        stamp: u64, out: *mut Span, out_len: usize, needed: &mut usize, gap: &mut Span) -> u32;
-    fn broadcast_coverage_end(floor: u64, spans: *const Span, len: usize, at: u64,
-        end: &mut u64) -> u32;
     fn broadcast_coverage_missing(floor: u64, spans: *const Span, len: usize, other_floor: u64,
         others: *const Span, others_len: usize, above: u64, upto: u64, stamp: &mut u64) -> u32;
-    fn broadcast_outbox_next(list: *const Listed, len: usize, floor: u64, spans: *const Span,
-        spans_len: usize, is_held: bool, in_flight: *const Listed, in_flight_len: usize, room: u64,
-        index: &mut usize) -> u32;
-    fn broadcast_outbox_lag(list: *const Listed, len: usize, sums: *const u64, sums_len: usize,
-        floor: u64, spans: *const Span, spans_len: usize, bytes: &mut u64) -> u32;
     fn broadcast_log_new(log: &mut LogHandle, budget: u64) -> u32;
     fn broadcast_log_free(log: &mut LogHandle);
     fn broadcast_log_arrive(log: &mut LogHandle, message: &Message, latest: u64, left: *mut u64,

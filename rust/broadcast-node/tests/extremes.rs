@@ -151,24 +151,16 @@ fn a_coverage_has_no_more_than_it_says() {
     let (mut read, mut refused) = (0, 0);
     for seed in 0..5_000 {
         let random = &mut Random::new(seed);
-        let (Some(mut one), Some(other)) = (coverage(random), coverage(random)) else {
+        let (Some(one), Some(other)) = (coverage(random), coverage(random)) else {
             refused += 1;
             continue;
         };
         read += 1;
         for _ in 0..10 {
             let (at, upto) = (number(random), number(random));
-            let end = one.run_end(at);
-            assert!(end >= at && (end == at || one.has(end)), "seed {seed}");
             if let Some(it) = one.first_missing(&other, at, upto) {
                 assert!(at < it && it <= upto && other.has(it) && !one.has(it), "seed {seed}");
             }
-            let before = one.clone();
-            assert_eq!(one.cover(at, upto), Ok(Span::default()), "seed {seed}");
-            assert!(one.has(upto) == (at < upto || before.has(upto)), "seed {seed}");
-            assert!((one == before) || at < upto, "seed {seed}");
-            let read = Coverage::reported(one.floor(), one.spans().to_vec());
-            assert_eq!(read, Ok(Some(one.clone())), "seed {seed}");
         }
     }
     assert!(read > 500 && refused > 500, "{read} read, {refused} refused");

@@ -1,8 +1,7 @@
 //! The functions of the log of an author.
-ghost use Rattle.std.specs.Prelude.{◌≡◌, ◌<◌, ◌≤◌, [], true, false, None, Some, IsNone, MatchOption, length, drop, map, slice_get};
+ghost use Rattle.std.specs.Prelude.{◌≡◌, ◌<◌, ◌≤◌, [], true, false, None, Some, IsNone, MatchOption, length, drop, slice_get};
 ghost use Rattle.gossip.specs.Held.{find, is_known, total};
-ghost use Rattle.gossip.specs.Outbox.{lag};
-ghost use Rattle.gossip.specs.Sending.{IsNext, NoneDue, charged};
+ghost use Rattle.gossip.specs.Sending.{IsNext, NoneDue, lag};
 ghost use Rattle.gossip.specs.Spans.{IsCoverage};
 ghost use Rattle.broadcast_c.specs.Calls.{BothHold};
 ghost use Rattle.broadcast_c.specs.Coverages.{coverage_of};
@@ -313,7 +312,7 @@ pub extern "C" fn broadcast_log_lag(
     bytes: &mut u64,
 ) -> u32
     ensures lag { result ≡ OK → Reads log.old.value log.new.value
-        (λ held. bytes.new ≡ lag (coverage_of floor spans.now) (map charged held.list)) }
+        (λ held. bytes.new ≡ lag (coverage_of floor spans.now) held.list) }
     ensures invalid { result ≡ NO_COVERAGE → ¬ (IsCoverage 64 (coverage_of floor spans.now))
         × (log.new.value ≡ log.old.value) }
     ensures valid { ¬ (result ≡ NO_COVERAGE) → IsCoverage 64 (coverage_of floor spans.now) }

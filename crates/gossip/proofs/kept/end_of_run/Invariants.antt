@@ -1,4 +1,4 @@
-use Rattle.std.proofs.Common.{◌≡◌, ◌∷◌, false, take}
+use Rattle.std.proofs.Common.{◌≡◌, false, take}
 use Rattle.gossip.specs.Spans.{is_had}
 use Rattle.gossip.proofs.kept.end_of_run.Given as goal
 

@@ -1,4 +1,4 @@
-use Rattle.std.proofs.Common.{◌≡◌, length, arith, refl, sym, min}
+use Rattle.std.proofs.Common.{◌≡◌, length, arith, sym}
 use Rattle.std.specs.VecDeque.{deque_len}
 use Rattle.std.proofs.lemmas.List.{length-take-le}
 use Rattle.gossip.proofs.Summing.{sums_on}

@@ -1,12 +1,9 @@
-use Rattle.std.proofs.Common.{◌≡◌, ◌≤◌, ◌<◌, ◌+◌, ◌∙◌, true, sym, refl, arith}
+use Rattle.std.proofs.Common.{◌≡◌, ◌≤◌, ◌<◌, ◌∙◌, sym, refl, arith}
 use Rattle.std.specs.Prelude.{nat_lt, false}
 use Rattle.std.proofs.lemmas.Bool.{le-ltb}
-use Rattle.gossip.specs.declared.message.Message.{Message}
 use Rattle.gossip.specs.declared.message.Arrived.TheVariants.{Oversize}
-use Rattle.gossip.specs.Newest.{is_sound}
 use Rattle.gossip.specs.Spans.{top_of}
-use Rattle.gossip.specs.Held.{Held, after, answer}
-use Rattle.gossip.specs.Placing.{unknown, later_than}
+use Rattle.gossip.specs.Held.{after, answer}
 use Rattle.gossip.proofs.Exchanging.{none_sent, all_covered, listed_sound, fits, more_sent, same_sent, less_later, less_unknown, same_budget, IsCoveredUpTo}
 use Rattle.gossip.proofs.laws.exchange.Goals as goal
 use Rattle.gossip.proofs.laws.exchange.Goals.{then-top-message, else-top-message}

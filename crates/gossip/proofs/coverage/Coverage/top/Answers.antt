@@ -1,6 +1,6 @@
 use Rattle.std.proofs.Common.{◌≡◌, sym, arith}
 use Rattle.gossip.specs.Spans.{top_of}
-use Rattle.gossip.proofs.Joining.{last_is_top, had_up_to_top, top_had}
+use Rattle.gossip.proofs.Covering.{last_is_top, had_up_to_top, top_had}
 use Rattle.gossip.proofs.coverage.Coverage.top.Goals as goal
 
 pub returns-in-Some-clause-top : goal.returns-in-Some-clause-top

@@ -1,4 +1,4 @@
-use Rattle.std.proofs.Common.{◌≡◌, ◌<◌, ◌∙◌, sym, arith, refl}
+use Rattle.std.proofs.Common.{◌<◌, ◌∙◌, sym, arith, refl}
 use Rattle.std.proofs.lemmas.Bool.{eq-eqb, ne_eqb}
 use Rattle.gossip.proofs.Finding.{found_at, not_found}
 use Rattle.gossip.proofs.kept.Kept.find.Goals as goal

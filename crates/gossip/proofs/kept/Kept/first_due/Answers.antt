@@ -1,10 +1,8 @@
-use Rattle.std.proofs.Common.{◌≡◌, ◌<◌, ◌≤◌, true, false, length, Some, refl, sym, arith}
-use Rattle.std.specs.Prelude.{not, nat_eq, slice_get}
+use Rattle.std.proofs.Common.{◌≡◌, ◌<◌, true, false, length, refl, sym, arith}
+use Rattle.std.specs.Prelude.{not, nat_eq}
 use Rattle.std.specs.List.{list_any}
 use Rattle.std.specs.VecDeque.{deque_len}
 use Rattle.std.proofs.lemmas.Bool.{and_from, and_right, and_left}
-use Rattle.gossip.specs.declared.message.Message.{Message}
-use Rattle.gossip.specs.Placing.{up_to}
 use Rattle.gossip.specs.Sending.{is_lacking, is_due}
 use Rattle.gossip.proofs.Finding.{behind, there, up_to_place, one_further, least}
 use Rattle.gossip.proofs.kept.Kept.first_due.Goals as goal

@@ -1,19 +1,16 @@
-use Rattle.std.proofs.Common.{◌≤◌, length, map, arith}
+use Rattle.std.proofs.Common.{arith}
 use Rattle.std.proofs.lemmas.List.{drop_more, drop_all}
 use Rattle.gossip.specs.Spans.{nothing}
-use Rattle.gossip.specs.Sending.{charged}
 use Rattle.gossip.proofs.Lagging.{parts, none_had, first_span, up_to_rises}
-use Rattle.gossip.proofs.Summing.{total_is}
 use Rattle.gossip.proofs.kept.Kept.lag_behind.Goals as goal
 
 pub loop-span-init : goal.loop-span-init
 loop-span-init c =
-    let all = total_is c.args.self.now.list.items in
-    record { apart = c.requires.apart; so_far = omega (arith, all, c.requires.total, c.bytes-bytes.ensures) }
+    record { apart = c.requires.apart; so_far = omega (arith, c.requires.total, c.bytes-bytes.ensures) }
 
 pub loop-span-preserved : goal.loop-span-preserved
 loop-span-preserved c =
-    let list = map charged c.args.self.now.list.items in
+    let list = c.args.self.now.list.items in
     let e = drop_more c.args.spans.now c.loop-span.span-index nothing c.loop-span-test.true in
     let apart = rw e at c.loop-span.invariant.apart in
     let so_far = rw e at c.loop-span.invariant.so_far in
@@ -37,7 +34,7 @@ loop-span-preserved c =
 
 pub returns : goal.returns
 returns c =
-    let list = map charged c.args.self.now.list.items in
+    let list = c.args.self.now.list.items in
     let e = drop_all c.loop-span.span-index c.args.spans.now c.loop-span-test.false in
     let so_far = rw e at c.loop-span.invariant.so_far in
     let all = parts c.args.spans.now list in

@@ -1,13 +1,12 @@
-use Rattle.std.proofs.Common.{◌≡◌, ◌+◌, drop, map}
+use Rattle.std.proofs.Common.{◌≡◌, ◌+◌, drop}
 use Rattle.gossip.specs.Spans.{IsApart}
-use Rattle.gossip.specs.Outbox.{bytes_of}
+use Rattle.gossip.specs.Held.{total}
 use Rattle.gossip.specs.Parts.{bytes_had}
-use Rattle.gossip.specs.Sending.{charged}
 use Rattle.gossip.proofs.kept.Kept.lag_behind.Given as goal
 
 abbrev pub invariant-loop-span : goal.invariant-loop-span
 invariant-loop-span l = record {
   apart : IsApart (drop l.span-index l.spans);
-  so_far : l.bytes + bytes_had l.spans (map charged l.self.list.items)
-      ≡ bytes_of (map charged l.self.list.items) + bytes_had (drop l.span-index l.spans) (map charged l.self.list.items);
+  so_far : l.bytes + bytes_had l.spans l.self.list.items
+      ≡ total l.self.list.items + bytes_had (drop l.span-index l.spans) l.self.list.items;
 }

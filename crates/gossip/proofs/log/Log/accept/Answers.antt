@@ -1,5 +1,5 @@
-use Rattle.std.proofs.Common.{◌≡◌, ◌∙◌, sym, arith, false, refl}
-use Rattle.gossip.specs.Held.{Held, is_known, with_new}
+use Rattle.std.proofs.Common.{◌≡◌, ◌∙◌, sym, arith, false}
+use Rattle.gossip.specs.Held.{Held, is_known}
 use Rattle.gossip.proofs.Shrinking.{total_inserted}
 use Rattle.gossip.proofs.Arriving.{keeps_held}
 use Rattle.gossip.proofs.log.Log.accept.Goals as goal
