@@ -4,7 +4,7 @@ use Rattle.std.specs.Prelude.{nat_le, nat_lt, ◌&&◌, ◌||◌}
 use Rattle.std.proofs.lemmas.Bool.Decides.{nat_tests}
 use Rattle.gossip.specs.declared.span.Span.{Span}
 use Rattle.gossip.specs.Spans.{is_in, is_had, IsApart}
-use Rattle.gossip.specs.Missing.{IsRunEnd, HasAll, IsFirstMissing}
+use Rattle.gossip.specs.Missing.{IsRunEnd, IsFirstMissing}
 use Rattle.gossip.proofs.Covering.{none_before, outside, either}
 
 beyond : (s a b : ℕ) → b < s → (nat_lt a s && nat_le s b) ≡ false
@@ -109,9 +109,3 @@ module _ (had theirs rest : List Span) (x : Span) (above upto end : ℕ) (left :
           | inr it ↦ it
         ];
       }
-
-pub has_all : (had theirs : List Span) (above upto : ℕ) → IsLeft had theirs [] above upto → HasAll had theirs above upto
-has_all had theirs above upto left s l g t = elim (left s l g t) [
-  | inl h ↦ absurd (let no : ⊥ = cc in no)
-  | inr h ↦ h
-]

@@ -32,9 +32,6 @@ none_had (m ∷ ms) = (let i = none_had ms in omega (arith, i))
 le_true : (a b : ℕ) → a ≤ b → nat_le a b ≡ true
 le_true a b h = grind (arith, nat_tests)
 
-le_false : (a b : ℕ) → b < a → nat_le a b ≡ false
-le_false a b h = grind (arith, nat_tests)
-
 -- one message: with the first span it is had or up to the beginning, or else it is had by others or up to the end
 one_span : (m : Message) (x : Span) (rest : List Span) → IsApart (x ∷ rest)
     → (if is_had m.stamp (x ∷ rest) then charge m else 0) + (if nat_le m.stamp x.from then charge m else 0)

@@ -13,10 +13,6 @@ use Rattle.gossip.specs.Placing.{up_to, sums_after, sum_behind}
 abbrev next_sum : ℕ → Message → ℕ
 next_sum s m = (s + charge m) % 2 ^ 64
 
--- as the code adds
-pub wraps : (s b : ℕ) → ((s + b) % 2 ^ 64 + 64) % 2 ^ 64 ≡ (s + (b + 64)) % 2 ^ 64
-wraps s b = omega arith
-
 pub length_sums : (s : ℕ) (xs : List Message) → length (sums_after s xs) ≡ length xs
 length_sums s [] = refl
 length_sums s (x ∷ xs) = ap (λ (n : ℕ). suc n) (length_sums (next_sum s x) xs)
