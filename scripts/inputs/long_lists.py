@@ -25,6 +25,14 @@ KEYS = tuple("0123")
 # A key that is never primary.
 STRANGER = "4"
 
+# The wide lists of each size and their events: their keys lie far apart, share their leading byte or follow each other, and
+# their contents are many, so that the maps of peers and of digests grow.
+WIDE_SIZES, WIDE_LISTS, WIDE_EVENTS_DRAWN = (1, 10, 100), 6, 3_000
+FAR_KEYS = (*range(8), *((7 << 56) + it for it in range(16)), *(it << 56 for it in range(8, 24)), *(model.GREATEST - it for it in range(8)))
+WIDE_KEYS = tuple(map(str, FAR_KEYS))
+WIDE_CONTENTS = tuple(f"{it:04x}" for it in range(800))
+WIDE_LIMITS = ("", "20 500")
+
 # The steps of `world`, its nodes, and its hostile keys.
 STEPS = (
     "peers peers broadcast broadcast broadcast deliver deliver deliver get get subscribe cleanup "
@@ -39,31 +47,31 @@ NAMED = (*NODES * 6, "4")
 SENDERS = (*HOSTILE * 7, *["7"] * 2)
 
 
-def payload(rng, kind):
-    whole = encoded(rng.choice(COMMITMENTS), rng.choice(CONTENTS))
+def payload(rng, kind, contents=CONTENTS):
+    whole = encoded(rng.choice(COMMITMENTS), rng.choice(contents))
     return model.spelled({"whole": whole, "cut": whole[:-1], "longer": whole + b"\0"}[kind])
 
 
-def told(rng, keys, ways):
+def told(rng, keys, ways, contents=CONTENTS):
     """What a broadcast says. One of so many goes by the digest of another content."""
     several = rng.choice(([], rng.choices(keys, k=1), rng.choices(keys, k=3)))
     to = f"to:{','.join(several)}" if several else "all"
-    other = f"as:{rng.choice(CONTENTS)}" if rng.randrange(ways) == 0 else ""
-    return with_words(to, rng.choice(COMMITMENTS), rng.choice(CONTENTS), other)
+    other = f"as:{rng.choice(contents)}" if rng.randrange(ways) == 0 else ""
+    return with_words(to, rng.choice(COMMITMENTS), rng.choice(contents), other)
 
 
-def event(rng):
+def event(rng, keys=KEYS, contents=CONTENTS):
     match rng.choice(EVENTS):
         case "peers":
-            return with_words("peers", *rng.choices(KEYS, k=rng.randrange(4)))
+            return with_words("peers", *rng.choices(keys, k=rng.randrange(4)))
         case "broadcast":
-            return with_words("broadcast", told(rng, KEYS, 2))
+            return with_words("broadcast", told(rng, keys, 2, contents))
         case "cleanup":
             return with_words("cleanup", *rng.choices(TICKETS, k=rng.randrange(3)))
         case "get" | "subscribe" as kind:
-            return with_words(kind, rng.choice(TICKETS), rng.choice(CONTENTS))
+            return with_words(kind, rng.choice(TICKETS), rng.choice(contents))
         case kind:
-            return with_words("payload", rng.choice(KEYS), payload(rng, kind))
+            return with_words("payload", rng.choice(keys), payload(rng, kind, contents))
 
 
 def peers(rng, node):
@@ -114,6 +122,20 @@ def of_replay():
                 lines += [f"payload {STRANGER} {data}" for data in whole]
             args = f"0 {size} {LIMITS[seed % len(LIMITS)]}".encode().split()
             yield f"list {seed} of size {size}", args, stdin_of(lines)
+
+
+def wide_of_replay():
+    """Names, arguments and inputs of `replay`: wide lists. Peer sets have all keys, and in the middle of every second list half of them."""
+    for size in WIDE_SIZES:
+        for seed in range(WIDE_LISTS):
+            lines = drawn(seed, WIDE_EVENTS_DRAWN, lambda rng: event(rng, WIDE_KEYS, WIDE_CONTENTS))
+            lines = [line for line in lines if not line.startswith("peers")]
+            if seed % 2 == 1:
+                middle = len(lines) // 2
+                lines[middle:middle] = [with_words("peers", *WIDE_KEYS[seed % 3 :: 2]), with_words("peers", *WIDE_KEYS)]
+            lines = [with_words("peers", *WIDE_KEYS), *lines, *(f"get 9 {content}" for content in WIDE_CONTENTS)]
+            args = f"0 {size} {WIDE_LIMITS[seed % 4 // 2]}".encode().split()
+            yield f"wide list {seed} of size {size}", args, stdin_of(lines)
 
 
 def of_world():
