@@ -84,6 +84,7 @@ pub extern "C" fn broadcast_log_arrive(
 ) -> u32
     ensures taken { result ≡ OK → BothHold log.old.value log.new.value
         (Arrives latest message.now arrived.new needed.new left.old left.new) }
+    ensures room { result ≡ OK → needed.new ≤ length left.old }
     ensures short { result ≡ SHORT → Reads log.old.value log.new.value (λ held.
         (needed.new ≡ length (leaves latest message.now held)) × (length left.old < needed.new)) }
     ensures empty { result ≡ EMPTY → (log.old.value ≡ None) × (log.new.value ≡ None) }
@@ -238,6 +239,7 @@ pub extern "C" fn broadcast_log_report(
 ) -> u32
     ensures reported { result ≡ OK → Reads log.old.value log.new.value (λ held.
         Reports held floor.new needed.new out.old out.new) }
+    ensures room { result ≡ OK → needed.new ≤ length out.old }
     ensures short { result ≡ SHORT → (length out.old < needed.new)
         × (Reads log.old.value log.new.value (λ held. Unit {0})) }
     ensures empty { ¬ (result ≡ OK) → ¬ (result ≡ SHORT)
