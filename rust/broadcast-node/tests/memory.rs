@@ -64,12 +64,15 @@ fn refuse_each<S, T: PartialEq + Debug>(
     loop {
         let mut state = make();
         match refusing(place, || call(&mut state)) {
-            // A map that finds no memory to grow goes on without it.
+            // A map that finds no memory to grow goes on without it, and the next call has the same result.
             (Ok(result), was_refused) => {
                 assert_eq!(result, expected);
                 if !was_refused {
                     return place;
                 }
+                let mut other = make();
+                call(&mut other).unwrap();
+                assert_eq!(call(&mut state), call(&mut other));
             }
             (Err(Error::Memory), true) => assert_eq!(call(&mut state).as_ref(), Ok(&expected)),
             other => panic!("{other:?}"),
